@@ -1,0 +1,8 @@
+pub mod RecordLaws
+pub mod Clear
+pub mod ChainLaws
+pub mod WalkLaws
+pub mod ChainsLaws
+pub mod WellFormedLaws
+pub mod ReachedLaws
+pub mod DecodeLaws

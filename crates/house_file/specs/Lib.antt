@@ -1,0 +1,5 @@
+pub mod Layout
+pub mod Check
+pub mod Meaning
+pub mod Decoded
+pub mod Reading

@@ -1,0 +1,68 @@
+-- What a house file says, by the records of each party's chain; and what it is to be well formed, in plain terms.
+use Prim.Native.Nat.{ℕ, zero, suc, _≤_, _<_}
+use mathlib.Core.Path.{_≡_}
+use mathlib.Core.Logic.{_⊎_}
+use mathlib.Core.Bool.{Bool, true, false, _&&_, _||_}
+use mathlib.Core.List.{List, [], _∷_, List·Memᴰ}
+use lib.ListN.{length}
+use lib.Dec.{eqb, ltb}
+use Rattle.lists.specs.Lists.{anyOf}
+use Rattle.house_file.specs.Layout.{byteAt, partiesOf, labelsOf, languageOf, longestOf, recordsOf, sizeOf, headOf, recordOf, permitKind}
+use Rattle.house_file.specs.Check.{says, pick}
+
+-- the records from r on, as far as each number names one
+unfoldable pub chainFrom : List ℕ → ℕ → ℕ → List ℕ
+chainFrom f zero r = []
+chainFrom f (suc k) r = pick (eqb r 0 || ltb (recordsOf f) r) [] (r ∷ chainFrom f k (recordOf f r .next))
+
+-- party u's chain
+unfoldable pub chainOf : List ℕ → ℕ → List ℕ
+chainOf f u = chainFrom f (recordsOf f) (headOf f u)
+
+-- a record of party u's chain has target v and kind k
+unfoldable pub recorded : List ℕ → ℕ → ℕ → ℕ → Bool
+recorded f u v k = ltb u (partiesOf f) && anyOf (says f v k) (chainOf f u)
+
+-- (u, v, label) is an edge
+unfoldable pub isEdge : List ℕ → ℕ → ℕ → ℕ → Bool
+isEdge f u v l = ltb l (labelsOf f) && recorded f u v l
+
+-- (u, v) is permitted
+unfoldable pub isPermitted : List ℕ → ℕ → ℕ → Bool
+isPermitted f u v = recorded f u v permitKind
+
+-- r and what follows it are these records; each number names a record, and 0 ends the chain
+abbrev pub Linked : List ℕ → ℕ → List ℕ → Type 0
+Linked f r [] = r ≡ 0
+Linked f r (s ∷ c) = (r ≡ s) × ((1 ≤ r) × ((r ≤ recordsOf f) × Linked f (recordOf f r .next) c))
+
+-- no element stands twice
+abbrev pub Once : List ℕ → Type 0
+Once [] = Unit {0}
+Once (x ∷ xs) = (List·Memᴰ x xs → ⊥) × Once xs
+
+pub record FieldsRight (f : List ℕ) : Type 0 where
+  pub edition : byteAt f 0 ≡ 1
+  pub parties : (1 ≤ partiesOf f) × (partiesOf f ≤ 32)
+  pub labels : (1 ≤ labelsOf f) × (labelsOf f ≤ 8)
+  pub language : languageOf f ≤ 3
+  pub longest : (1 ≤ longestOf f) × (longestOf f ≤ 31)
+  pub zeroByte : byteAt f 5 ≡ 0
+  pub records : recordsOf f ≤ 8928
+
+pub record WellFormed (f : List ℕ) : Type 0 where
+  pub long : 8 ≤ length f
+  pub fields : FieldsRight f
+  pub size : length f ≡ sizeOf f
+  -- heads and nexts name records, and every chain ends
+  pub linked : (u : ℕ) → u < partiesOf f → Linked f (headOf f u) (chainOf f u)
+  -- every record stands in exactly one chain, once
+  pub reached : (r : ℕ) → 1 ≤ r → r ≤ recordsOf f → (u : ℕ) × ((u < partiesOf f) × List·Memᴰ r (chainOf f u))
+  pub once : (u : ℕ) → u < partiesOf f → Once (chainOf f u)
+  pub apart : (u v r : ℕ) → u < v → v < partiesOf f → List·Memᴰ r (chainOf f u) → List·Memᴰ r (chainOf f v) → ⊥
+  -- targets and kinds
+  pub target : (u r : ℕ) → u < partiesOf f → List·Memᴰ r (chainOf f u) → (recordOf f r .target < partiesOf f) × (recordOf f r .target ≡ u → ⊥)
+  pub kind : (u r : ℕ) → u < partiesOf f → List·Memᴰ r (chainOf f u) → (recordOf f r .kind < labelsOf f) ⊎ (recordOf f r .kind ≡ permitKind)
+  -- no two records of a chain have both target and kind equal
+  pub different : (u r s : ℕ) → u < partiesOf f → List·Memᴰ r (chainOf f u) → List·Memᴰ s (chainOf f u)
+    → recordOf f r .target ≡ recordOf f s .target → recordOf f r .kind ≡ recordOf f s .kind → r ≡ s

@@ -1,0 +1,45 @@
+// A party's chain: followed to its end, each record marked, its kinds gathered into a row.
+ghost use mathlib.Core.Path.{_≡_};
+ghost use mathlib.Core.List.{List};
+ghost use Prim.Native.Nat.{ℕ, _<_};
+ghost use lib.ListN.{length};
+ghost use Rattle.house_file.specs.Reading.{Framed, Marks, ChainRead};
+use crate::header::Header;
+use crate::header::u16_at;
+use crate::record::bit_of;
+use crate::record::check_record;
+use crate::record::read_record;
+use crate::reply::Check;
+use crate::reply::Refusal;
+use masks::Row;
+
+pub struct Chain {
+    pub reply: Check,
+    pub row: Row,
+}
+
+// Party u's chain; `marks` has a place for each record, not 0 where it was reached.
+pub fn read_chain(file: &[u8], h: Header, u: usize, marks: &mut [u8; 8928]) -> Chain
+    requires { ⌜ Framed (now file) h × ((u < h .parties) × (length (now marks) ≡ 8928)) ⌝ }
+    ensures { λ _. ⌜ length (now (marks .exit)) ≡ 8928 ⌝ }
+    ensures { λ r. ⌜ ((before : List ℕ) → Marks (now (marks .entry)) before → ChainRead (now (file .entry)) u before r (now (marks .exit))) ⌝ }
+{
+    let mut row = masks::empty_row();
+    let mut at = u16_at(file, 8 + 2 * u);
+    while at != 0 {
+        if h.records < at {
+            return Chain { reply: Check::Refused(Refusal::Link), row };
+        }
+        let x = read_record(file, h.parties, at);
+        let reply = check_record(h, u, x, marks[at - 1], row);
+        match reply {
+            Check::Refused(e) => return Chain { reply: Check::Refused(e), row },
+            Check::Accepted => {
+                marks[at - 1] = 1;
+                row = masks::add(row, x.target, bit_of(x.kind));
+                at = x.next;
+            }
+        }
+    }
+    Chain { reply: Check::Accepted, row }
+}

@@ -1,0 +1,46 @@
+-- Proofs by cases that hand the outcome over as an equation. Assumes nothing.
+use mathlib.Core.Path.{_≡_, refl, sym, _∙_}
+use mathlib.Core.Logic.{⊎-elim}
+use mathlib.Core.Bool.{Bool, true, false, _&&_, _||_, true≢false}
+use mathlib.Core.List.{List, _∷_, List·Memᴰ, List·Memᴰ·cases-cons}
+use mathlib.Core.Option.{Option, none, some}
+
+-- by the two outcomes of a test
+pub by-test : {G : Type 0} (b : Bool) → (b ≡ true → G) → (b ≡ false → G) → G
+by-test true f g = f refl
+by-test false f g = g refl
+
+-- by what a search gave
+pub by-found : {G A : Type 0} (o : Option A) → (o ≡ none → G) → ((x : A) → o ≡ some x → G) → G
+by-found none f g = f refl
+by-found (some x) f g = g x refl
+
+-- by where an element of y ∷ ys stands
+pub by-mem : {G A : Type 0} {x y : A} {ys : List A} → List·Memᴰ x (y ∷ ys) → (x ≡ y → G) → (List·Memᴰ x ys → G) → G
+by-mem m f g = ⊎-elim f g (List·Memᴰ·cases-cons m)
+
+pub clash : {G : Type 0} → true ≡ false → G
+clash e = absurd (true≢false e)
+
+-- a test that passed did not fail
+pub both : {G : Type 0} {b : Bool} → b ≡ true → b ≡ false → G
+both t f = clash (sym t ∙ f)
+
+pub and-false : (b : Bool) {c : Bool} → c ≡ false → (b && c) ≡ false
+and-false true e = e
+and-false false e = refl
+
+pub or-true : (b : Bool) {c : Bool} → c ≡ true → (b || c) ≡ true
+or-true true e = refl
+or-true false e = e
+
+pub and-left : (b c : Bool) → (b && c) ≡ true → b ≡ true
+and-left true c e = refl
+and-left false c e = e
+
+pub and-right : (b c : Bool) → (b && c) ≡ true → c ≡ true
+and-right true c e = e
+and-right false c e = clash (sym e)
+
+pub and-both : {b c : Bool} → b ≡ true → c ≡ true → (b && c) ≡ true
+and-both p q = rw (p, q)

@@ -1,0 +1,13 @@
+-- Every element of a repeat of 0 is 0.
+use Rattle.masks.proofs.TableLaws.{getD-zeros}
+use Rattle.masks.proofs.empty_row.Statement.{statement}
+use Rattle.masks.proofs.empty_row.Tie as tie
+use Rattle.masks.proofs.empty_row.Reads as reads
+use Rattle.masks.proofs.empty_row.Lts as lts
+
+-- src/lib.rt:34:1
+returns : tie.Need-returns
+returns c = getD-zeros 32
+
+pub empty-row-spec : {M : Type 1} → statement M
+empty-row-spec = tie.close (tie.spec returns)

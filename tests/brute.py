@@ -1,0 +1,448 @@
+"""A slow and plain reckoning of document 01, for small files.
+
+It is written from 01 alone and shares nothing with the product.
+Words are tuples of symbols, pairs are tuples of two parties, and a rule list
+is a list of terms, each a list of words.
+The calls at the end return tuples such as ("refused", 4) or ("length", 7).
+"""
+
+from collections import namedtuple
+
+PERMIT_KIND = 0xFF
+LARGEST_R = 8928
+SCRATCH_LENGTH = 1024
+NEXT_WORD_ROOM = 31
+PROGRAM_INPUT = 35785
+PROGRAM_LIST = 65536
+
+# The kinds that each language uses: 0 plain, 1 absent, 2 inverse, 3 absent inverse.
+KINDS = {0: (0,), 1: (0, 1), 2: (0, 2), 3: (0, 1, 2, 3)}
+
+# What an accepted file says. edges holds (u, v, label), permits holds (u, v).
+House = namedtuple("House", "n labels language longest edges permits")
+
+
+# ---------------------------------------------------------------- the file
+
+def two_bytes(data, at):
+    """The two-byte field at this place, low byte first."""
+    return data[at] + 256 * data[at + 1]
+
+
+def head_of(data, party):
+    """The record that the party's head names, or 0."""
+    return two_bytes(data, 8 + 2 * party)
+
+
+def record_of(data, number):
+    """Target, kind byte and next of a record; records are numbered from 1."""
+    at = 8 + 2 * data[1] + 4 * (number - 1)
+    return data[at], data[at + 1], two_bytes(data, at + 2)
+
+
+def header_in_range(data):
+    """Whether each header field is in its range. Any fault is refusal 2."""
+    if data[0] != 1:
+        return False
+    if not 1 <= data[1] <= 32:
+        return False
+    if not 1 <= data[2] <= 8:
+        return False
+    if not 0 <= data[3] <= 3:
+        return False
+    if not 1 <= data[4] <= 31:
+        return False
+    if data[5] != 0:
+        return False
+    return two_bytes(data, 6) <= LARGEST_R
+
+
+def check(data):
+    """0 when the file is accepted, else the number of its refusal."""
+    if len(data) < 8:
+        return 1
+    if not header_in_range(data):
+        return 2
+    if len(data) != 8 + 2 * data[1] + 4 * two_bytes(data, 6):
+        return 1
+    return check_chains(data)
+
+
+def check_chains(data):
+    """Follow the chains of all parties in order; 0 or a number from 3 to 8."""
+    n, labels, count = data[1], data[2], two_bytes(data, 6)
+    reached = set()
+    for party in range(n):
+        in_chain = set()
+        link = head_of(data, party)
+        while link != 0:
+            if link > count:
+                return 3
+            if link in reached:
+                return 4
+            reached.add(link)
+            target, kind, following = record_of(data, link)
+            if target >= n or target == party:
+                return 6
+            if kind >= labels and kind != PERMIT_KIND:
+                return 7
+            if (target, kind) in in_chain:
+                return 8
+            in_chain.add((target, kind))
+            link = following
+    if len(reached) < count:
+        return 5
+    return 0
+
+
+def decode(data):
+    """What an accepted file says. The file must have passed check."""
+    edges, permits = set(), set()
+    for party in range(data[1]):
+        link = head_of(data, party)
+        while link != 0:
+            target, kind, link = record_of(data, link)
+            if kind == PERMIT_KIND:
+                permits.add((party, target))
+            else:
+                edges.add((party, target, kind))
+    return House(data[1], data[2], data[3], data[4], edges, permits)
+
+
+# ------------------------------------------------- pairs, symbols, paths, words
+
+def pairs(house):
+    """All ordered pairs of two different parties, in pair order."""
+    return [(u, v) for u in range(house.n) for v in range(house.n) if u != v]
+
+
+def permitted_pairs(house):
+    return [pair for pair in pairs(house) if pair in house.permits]
+
+
+def unpermitted_pairs(house):
+    return [pair for pair in pairs(house) if pair not in house.permits]
+
+
+def is_pair(house, u, v):
+    """Whether (u, v) is a pair of the house; if not, it is refusal 10."""
+    return u < house.n and v < house.n and u != v
+
+
+def is_symbol(house, symbol):
+    """Whether the symbol's label is below L and its kind is one of the language's."""
+    return symbol // 4 < house.labels and symbol % 4 in KINDS[house.language]
+
+
+def symbols(house):
+    """The symbols of the house, lower first."""
+    return [s for s in range(4 * house.labels) if is_symbol(house, s)]
+
+
+def holds(house, u, v, symbol):
+    """Whether the symbol is one of the house's and holds from u to v."""
+    if u == v or not is_symbol(house, symbol):
+        return False
+    label, kind = symbol // 4, symbol % 4
+    if kind == 0:
+        return (u, v, label) in house.edges
+    if kind == 1:
+        return (u, v, label) not in house.edges
+    if kind == 2:
+        return (v, u, label) in house.edges
+    return (v, u, label) not in house.edges
+
+
+def all_paths(house, u, v):
+    """Every path from u to v of at most D symbols, as (parties, word)."""
+    found = []
+    extend(house, (u,), (), v, found)
+    return found
+
+
+def extend(house, parties, word, goal, found):
+    """Add to found every path to goal that begins with these parties and symbols."""
+    if parties[-1] == goal:
+        found.append((parties, word))
+        return
+    if len(word) == house.longest:
+        return
+    for party in range(house.n):
+        if party not in parties:
+            for symbol in symbols(house):
+                if holds(house, parties[-1], party, symbol):
+                    extend(house, parties + (party,), word + (symbol,), goal, found)
+
+
+def word_key(word):
+    """Sorting by this key is word order: shorter first, then lower symbol first."""
+    return len(word), tuple(word)
+
+
+def words(house, u, v):
+    """The pair's words in word order, each once."""
+    return sorted({word for _, word in all_paths(house, u, v)}, key=word_key)
+
+
+def word_table(house):
+    """The words of every pair: a dictionary from pairs to lists in word order."""
+    return {pair: words(house, *pair) for pair in pairs(house)}
+
+
+def least_path(house, u, v, word):
+    """Of the pair's paths with this word the least, as parties; None if it has none."""
+    with_word = [parties for parties, w in all_paths(house, u, v) if w == tuple(word)]
+    return min(with_word) if with_word else None
+
+
+def next_word(house, u, v, word):
+    """The pair's first word after the given one, or None."""
+    for candidate in words(house, u, v):
+        if word_key(candidate) > word_key(word):
+            return candidate
+    return None
+
+
+# ------------------------------------------------------- terms and rule lists
+
+def meets(pair_words, term):
+    """Whether a pair with these words has all words of the term."""
+    return all(word in pair_words for word in term)
+
+
+def permits_by(terms, pair_words):
+    """Whether the rule list permits a pair with these words."""
+    return any(meets(pair_words, term) for term in terms)
+
+
+def encode_list(terms):
+    """The bytes of a rule list."""
+    out = bytearray(len(terms).to_bytes(2, "little"))
+    for term in terms:
+        out += len(term).to_bytes(2, "little")
+        for word in term:
+            out.append(len(word))
+            out += bytes(word)
+    return bytes(out)
+
+
+class BrokenList(Exception):
+    """The bytes are no rule list of the house: refusal 9."""
+
+
+def decode_list(house, data):
+    """The terms of a rule list, or BrokenList."""
+    terms = []
+    count, at = take_number(data, 0)
+    for _ in range(count):
+        term, at = take_term(house, data, at)
+        terms.append(term)
+    if at != len(data):
+        raise BrokenList("bytes follow the last term")
+    return terms
+
+
+def take_number(data, at):
+    """A two-byte number and the place after it."""
+    if at + 2 > len(data):
+        raise BrokenList("cut short in a number")
+    return two_bytes(data, at), at + 2
+
+
+def take_term(house, data, at):
+    """A term and the place after it."""
+    count, at = take_number(data, at)
+    if count == 0:
+        raise BrokenList("a term of no words")
+    term = []
+    for _ in range(count):
+        word, at = take_word(house, data, at)
+        term.append(word)
+    return term, at
+
+
+def take_word(house, data, at):
+    """A word and the place after it."""
+    if at >= len(data):
+        raise BrokenList("cut short before a word")
+    length = data[at]
+    if not 1 <= length <= house.longest:
+        raise BrokenList("a word's length is out of range")
+    word = tuple(data[at + 1:at + 1 + length])
+    if len(word) < length:
+        raise BrokenList("cut short in a word")
+    if not all(is_symbol(house, symbol) for symbol in word):
+        raise BrokenList("a symbol is outside L or the language")
+    return word, at + 1 + length
+
+
+# --------------------------------------------------------- verdict and mining
+
+def first_rival(house, table, pair):
+    """The first unpermitted pair that has all words of the pair, or None."""
+    for other in unpermitted_pairs(house):
+        if meets(table[other], table[pair]):
+            return other
+    return None
+
+
+def verdict(house, table):
+    """("convertible", length), ("no-word", pair) or ("rival", pair, rival)."""
+    for pair in permitted_pairs(house):
+        if not table[pair]:
+            return ("no-word", pair)
+        rival = first_rival(house, table, pair)
+        if rival is not None:
+            return ("rival", pair, rival)
+    return ("convertible", len(encode_list(mine(house, table))))
+
+
+def mine(house, table):
+    """The rule list of a convertible house."""
+    terms = []
+    for pair in permitted_pairs(house):
+        if not permits_by(terms, table[pair]):
+            terms.append(term_for(house, table, pair))
+    return terms
+
+
+def term_for(house, table, pair):
+    """The term that mining makes for a permitted pair without a rival."""
+    term = [table[pair][0]]
+    for other in unpermitted_pairs(house):
+        if meets(table[other], term):
+            lacked = [word for word in table[pair] if word not in table[other]]
+            term.append(lacked[0])
+    return term
+
+
+def scratch_table(house, table, terms):
+    """The 1,024 bytes that mining leaves in scratch: byte 32a + b for (a, b)."""
+    out = bytearray(SCRATCH_LENGTH)
+    for a, b in pairs(house):
+        if permits_by(terms, table[(a, b)]):
+            out[32 * a + b] = 1
+    return bytes(out)
+
+
+# ------------------------------------------------------------------ the calls
+
+def written_over(old, new):
+    """A buffer whose first bytes are replaced; the bytes after them are kept."""
+    return bytes(new) + bytes(old[len(new):])
+
+
+def call_check(data):
+    number = check(data)
+    return ("refused", number) if number else ("accepted",)
+
+
+def call_verdict(data):
+    number = check(data)
+    if number:
+        return ("refused", number)
+    house = decode(data)
+    return verdict(house, word_table(house))
+
+
+def call_mining(data, scratch, output):
+    """The reply, scratch afterwards, output afterwards."""
+    number = check(data)
+    if number:
+        return ("refused", number), scratch, output
+    if len(scratch) < SCRATCH_LENGTH:
+        return ("refused", 12), scratch, output
+    house = decode(data)
+    table = word_table(house)
+    if verdict(house, table)[0] != "convertible":
+        return ("refused", 13), scratch, output
+    terms = mine(house, table)
+    listed = encode_list(terms)
+    if len(output) < len(listed):
+        return ("refused", 14), written_over(scratch, bytes(SCRATCH_LENGTH)), output
+    scratch = written_over(scratch, scratch_table(house, table, terms))
+    return ("length", len(listed)), scratch, written_over(output, listed)
+
+
+def bad_word(house, word):
+    """Whether a given word is longer than D or has a symbol outside L or the language."""
+    if len(word) > house.longest:
+        return True
+    return not all(is_symbol(house, symbol) for symbol in word)
+
+
+def call_path(data, u, v, word, output):
+    """The reply and output afterwards."""
+    number = check(data)
+    if number:
+        return ("refused", number), output
+    house = decode(data)
+    if not is_pair(house, u, v):
+        return ("refused", 10), output
+    if len(word) == 0 or bad_word(house, word):
+        return ("refused", 11), output
+    if len(output) < len(word) + 1:
+        return ("refused", 14), output
+    parties = least_path(house, u, v, word)
+    if parties is None:
+        return ("lacks",), output
+    return ("parties", len(parties)), written_over(output, parties)
+
+
+def call_next_word(data, u, v, word, output):
+    """The reply and output afterwards."""
+    number = check(data)
+    if number:
+        return ("refused", number), output
+    house = decode(data)
+    if not is_pair(house, u, v):
+        return ("refused", 10), output
+    if bad_word(house, word):
+        return ("refused", 11), output
+    if len(output) < NEXT_WORD_ROOM:
+        return ("refused", 14), output
+    following = next_word(house, u, v, word)
+    if following is None:
+        return ("none",), output
+    return ("length", len(following)), written_over(output, following)
+
+
+def call_permit(data, listed, u, v):
+    number = check(data)
+    if number:
+        return ("refused", number)
+    house = decode(data)
+    if not is_pair(house, u, v):
+        return ("refused", 10)
+    try:
+        terms = decode_list(house, listed)
+    except BrokenList:
+        return ("refused", 9)
+    return ("yes",) if permits_by(terms, words(house, u, v)) else ("no",)
+
+
+# --------------------------------------------------------- program permitconv
+
+def word_text(word):
+    return ".".join("%02X" % symbol for symbol in word)
+
+
+def permitconv(data, room=PROGRAM_LIST):
+    """What the program prints for this standard input. room is its longest list."""
+    data = data[:PROGRAM_INPUT]
+    number = check(data)
+    if number:
+        return "refused %d\n" % number
+    house = decode(data)
+    table = word_table(house)
+    answer = verdict(house, table)
+    if answer[0] == "no-word":
+        return "not-convertible %d %d no-word\n" % answer[1]
+    if answer[0] == "rival":
+        return "not-convertible %d %d rival %d %d\n" % (answer[1] + answer[2])
+    text = "convertible %d\n" % answer[1]
+    if answer[1] > room:
+        return text + "refused 14\n"
+    for term in mine(house, table):
+        text += " & ".join(word_text(word) for word in term) + "\n"
+    return text

@@ -1,0 +1,738 @@
+"""Tests of the test side itself: brute.py is held to the text of document 01.
+
+    python3 -m unittest discover -s tests        (or: python3 tests/test_brute.py)
+"""
+
+import itertools
+import random
+import struct
+import unittest
+
+import brute
+import files
+import run_cases
+import script
+import stored
+
+
+def hexadecimal(text):
+    return bytes.fromhex(text)
+
+
+def case_file(letter):
+    """The file of a case A to J, from the stored rows."""
+    return [stored.file_of(row) for row in stored.ROWS if row[0] == letter][0]
+
+
+def file_with(n, edges, permits=(), labels=1, language=0, longest=2):
+    """A file that says this."""
+    matter = files.Matter(n, labels, language, longest, set(edges), set(permits))
+    return files.lay_out(matter, random.Random(1)).bytes()
+
+
+def house_with(n, edges, permits=(), labels=1, language=0, longest=2):
+    return brute.decode(file_with(n, edges, permits, labels, language, longest))
+
+
+CASES = "ABCDEFGHIJ"
+
+# 01's verdict of each case.
+VERDICTS = {
+    "A": ("convertible", 7),
+    "B": ("rival", (0, 1), (1, 2)),
+    "C": ("no-word", (2, 0)),
+    "D": ("no-word", (0, 2)),
+    "E": ("convertible", 2),
+    "F": ("convertible", 6),
+    "G": ("convertible", 7),
+    "H": ("convertible", 8),
+    "I": ("rival", (0, 1), (1, 0)),
+    "J": ("convertible", 6),
+}
+
+# 01's list of each convertible case.
+LISTS = {
+    "A": "01 00 01 00 02 00 00",
+    "E": "00 00",
+    "F": "01 00 01 00 01 00",
+    "G": "01 00 01 00 02 02 02",
+    "H": "01 00 02 00 01 00 01 04",
+    "J": "01 00 01 00 01 01",
+}
+
+# What permitconv prints. 01 writes out A, B and C; the others follow from its rules.
+TEXTS = {
+    "A": "convertible 7\n00.00\n",
+    "B": "not-convertible 0 1 rival 1 2\n",
+    "C": "not-convertible 2 0 no-word\n",
+    "D": "not-convertible 0 2 no-word\n",
+    "E": "convertible 2\n",
+    "F": "convertible 6\n00\n",
+    "G": "convertible 7\n02.02\n",
+    "H": "convertible 8\n00 & 04\n",
+    "I": "not-convertible 0 1 rival 1 0\n",
+    "J": "convertible 6\n01\n",
+}
+
+# The pairs that each mined list permits, as places 32a + b of scratch.
+SCRATCH = {"A": [2], "E": [], "F": [1, 34], "G": [64], "H": [1], "J": [32]}
+
+
+class TenCases(unittest.TestCase):
+
+    def test_files_are_accepted(self):
+        for letter in CASES:
+            self.assertEqual(brute.call_check(case_file(letter)), ("accepted",), letter)
+
+    def test_a_is_the_file_of_26_bytes(self):
+        self.assertEqual(len(case_file("A")), 26)
+
+    def test_verdicts(self):
+        for letter in CASES:
+            self.assertEqual(brute.call_verdict(case_file(letter)), VERDICTS[letter], letter)
+
+    def test_mined_lists(self):
+        for letter, text in LISTS.items():
+            listed = hexadecimal(text)
+            reply, scratch, output = brute.call_mining(
+                case_file(letter), b"\xAA" * 1030, b"\xBB" * 20)
+            self.assertEqual(reply, ("length", len(listed)), letter)
+            self.assertEqual(output, listed + b"\xBB" * (20 - len(listed)), letter)
+            ones = [at for at in range(1024) if scratch[at] == 1]
+            self.assertEqual(ones, SCRATCH[letter], letter)
+            self.assertEqual(scratch.count(0), 1024 - len(ones), letter)
+            self.assertEqual(scratch[1024:], b"\xAA" * 6, letter)
+
+    def test_output_of_exactly_the_length_is_enough(self):
+        for letter, text in LISTS.items():
+            listed = hexadecimal(text)
+            reply, _, output = brute.call_mining(
+                case_file(letter), bytes(1024), b"\xBB" * len(listed))
+            self.assertEqual((reply, output), (("length", len(listed)), listed), letter)
+
+    def test_others_are_refused_13(self):
+        for letter in CASES:
+            if letter not in LISTS:
+                self.assertEqual(brute.call_mining(case_file(letter), b"\xAA" * 1024, b""),
+                                 (("refused", 13), b"\xAA" * 1024, b""), letter)
+
+    def test_permit_of_each_list(self):
+        for letter, text in LISTS.items():
+            house = brute.decode(case_file(letter))
+            for u, v in brute.pairs(house):
+                answer = brute.call_permit(case_file(letter), hexadecimal(text), u, v)
+                wanted = ("yes",) if (u, v) in house.permits else ("no",)
+                self.assertEqual(answer, wanted, (letter, u, v))
+
+    def test_permitconv(self):
+        for letter in CASES:
+            self.assertEqual(brute.permitconv(case_file(letter)), TEXTS[letter], letter)
+
+    def test_permitconv_refused(self):
+        data = case_file("A")
+        self.assertEqual(brute.permitconv(data[:20] + b"\x01\x00" + data[22:]), "refused 4\n")
+        self.assertEqual(brute.permitconv(data + bytes(40000)), "refused 1\n")
+
+    def test_permitconv_list_too_long(self):
+        self.assertEqual(brute.permitconv(case_file("A"), room=7), "convertible 7\n00.00\n")
+        self.assertEqual(brute.permitconv(case_file("A"), room=6), "convertible 7\nrefused 14\n")
+
+    def test_permitconv_two_terms(self):
+        data = file_with(3, [(0, 1, 0), (1, 2, 1)], [(0, 1), (1, 2)], labels=2, longest=1)
+        self.assertEqual(brute.permitconv(data), "convertible 10\n00\n04\n")
+
+
+class RuledOut(unittest.TestCase):
+
+    def test_one_rival_for_all_words(self):
+        # In H each word of (0,1) is also a word of an unpermitted pair, but no pair has both.
+        house = brute.decode(case_file("H"))
+        self.assertEqual(brute.words(house, 0, 2), [(0,)])
+        self.assertEqual(brute.words(house, 1, 2), [(4,)])
+        self.assertIsNone(brute.first_rival(house, brute.word_table(house), (0, 1)))
+
+    def test_no_party_twice(self):
+        house = brute.decode(case_file("I"))
+        self.assertEqual(brute.words(house, 0, 1), [(0,)])
+
+    def test_the_pairs_second_party_only_at_the_end(self):
+        house = house_with(3, [(0, 1, 0), (1, 2, 0), (2, 1, 0)], longest=3)
+        self.assertEqual(brute.words(house, 0, 1), [(0,)])
+
+    def test_no_term_without_words(self):
+        self.assertEqual(brute.call_permit(case_file("A"), hexadecimal("01 00 00 00"), 0, 2),
+                         ("refused", 9))
+
+    def test_no_absence_between_a_party_and_itself(self):
+        house = brute.decode(case_file("J"))
+        for u in range(2):
+            for symbol in range(4):
+                self.assertFalse(brute.holds(house, u, u, symbol))
+        self.assertEqual(brute.words(house, 1, 0), [(1,)])
+
+    def test_a_rival_is_unpermitted(self):
+        # In F the two permitted pairs have the same words.
+        house = brute.decode(case_file("F"))
+        self.assertEqual(brute.words(house, 0, 1), brute.words(house, 1, 2))
+        self.assertEqual(brute.call_verdict(case_file("F"))[0], "convertible")
+
+    def test_all_relations_of_a_pair_count(self):
+        house = brute.decode(case_file("H"))
+        self.assertEqual(brute.words(house, 0, 1), [(0,), (4,)])
+
+
+class Symbols(unittest.TestCase):
+
+    def test_kinds_of_the_languages(self):
+        wanted = {0: [0, 4], 1: [0, 1, 4, 5], 2: [0, 2, 4, 6], 3: [0, 1, 2, 3, 4, 5, 6, 7]}
+        for language, symbols in wanted.items():
+            self.assertEqual(brute.symbols(house_with(2, [], labels=2, language=language)), symbols)
+
+    def test_holds(self):
+        # One edge, (0, 1) with label 1, of two labels.
+        house = house_with(2, [(0, 1, 1)], labels=2, language=3)
+        held = [s for s in range(12) if brute.holds(house, 0, 1, s)]
+        self.assertEqual(held, [1, 3, 4, 7])
+        held = [s for s in range(12) if brute.holds(house, 1, 0, s)]
+        self.assertEqual(held, [1, 3, 5, 6])
+
+    def test_a_symbol_outside_the_language_does_not_hold(self):
+        house = house_with(2, [(0, 1, 0)], language=0)
+        self.assertEqual([s for s in range(40) if brute.holds(house, 0, 1, s)], [0])
+
+
+class NextWord(unittest.TestCase):
+
+    # Base graph in language 3. From 0 to 2: absent and absent inverse directly;
+    # over 1 each step is plain or absent inverse.
+    BASE_3 = file_with(3, [(0, 1, 0), (1, 2, 0)], language=3)
+    BASE_3_WORDS = [(1,), (3,), (0, 0), (0, 3), (3, 0), (3, 3)]
+
+    def walk(self, data, u, v):
+        """The words that next-word gives one after the other, from the empty word."""
+        found, word = [], ()
+        while True:
+            reply, output = brute.call_next_word(data, u, v, word, b"\xAA" * 33)
+            if reply == ("none",):
+                self.assertEqual(output, b"\xAA" * 33)
+                return found
+            self.assertEqual(reply[0], "length")
+            length = reply[1]
+            self.assertEqual(output[length:], b"\xAA" * (33 - length))
+            word = tuple(output[:length])
+            self.assertNotIn(word, found)
+            found.append(word)
+
+    def test_walks(self):
+        self.assertEqual(self.walk(self.BASE_3, 0, 2), self.BASE_3_WORDS)
+        self.assertEqual(self.walk(case_file("A"), 0, 2), [(0, 0)])
+        self.assertEqual(self.walk(case_file("C"), 2, 0), [])
+        self.assertEqual(self.walk(case_file("D"), 0, 2), [])
+        self.assertEqual(self.walk(case_file("G"), 2, 0), [(2, 2)])
+        self.assertEqual(self.walk(case_file("H"), 0, 1), [(0,), (4,)])
+        self.assertEqual(self.walk(case_file("I"), 0, 1), [(0,)])
+
+    def test_the_given_word_need_not_be_the_pairs(self):
+        house = brute.decode(self.BASE_3)
+        self.assertEqual(brute.next_word(house, 0, 2, (0,)), (1,))
+        self.assertEqual(brute.next_word(house, 0, 2, (2,)), (3,))
+        self.assertEqual(brute.next_word(house, 0, 2, (0, 1)), (0, 3))
+        self.assertEqual(brute.next_word(house, 0, 2, (3, 2)), (3, 3))
+
+    def test_the_given_word_may_be_longer_than_any_word(self):
+        data = file_with(3, [(0, 1, 0), (1, 2, 0)], language=3, longest=5)
+        self.assertEqual(self.walk(data, 0, 2), self.BASE_3_WORDS)
+        self.assertEqual(brute.call_next_word(data, 0, 2, (0,) * 5, bytes(31)),
+                         (("none",), bytes(31)))
+
+    def test_word_order(self):
+        given = [(0, 0), (4,), (0,), (1, 0, 0), (0, 4), (1,), ()]
+        self.assertEqual(sorted(given, key=brute.word_key),
+                         [(), (0,), (1,), (4,), (0, 0), (0, 4), (1, 0, 0)])
+
+
+class Path(unittest.TestCase):
+
+    def test_written_and_returned(self):
+        self.assertEqual(brute.call_path(case_file("A"), 0, 2, (0, 0), b"\xAA" * 5),
+                         (("parties", 3), hexadecimal("00 01 02 AA AA")))
+        self.assertEqual(brute.call_path(case_file("G"), 2, 0, (2, 2), b"\xAA" * 3),
+                         (("parties", 3), hexadecimal("02 01 00")))
+
+    def test_lacks(self):
+        self.assertEqual(brute.call_path(case_file("A"), 0, 2, (0,), b"\xAA" * 5),
+                         (("lacks",), b"\xAA" * 5))
+
+    def test_the_lower_party_at_the_first_difference(self):
+        two_ways = house_with(4, [(0, 1, 0), (0, 2, 0), (1, 3, 0), (2, 3, 0)])
+        self.assertEqual(brute.least_path(two_ways, 0, 3, (0, 0)), (0, 1, 3))
+
+    def test_a_lower_party_that_leads_nowhere(self):
+        house = house_with(4, [(0, 1, 0), (0, 2, 0), (2, 3, 0)])
+        self.assertEqual(brute.least_path(house, 0, 3, (0, 0)), (0, 2, 3))
+
+    def test_the_first_difference_counts_not_the_last(self):
+        # 0 1 4 5 and 0 2 3 5: the first difference is 1 against 2.
+        house = house_with(6, [(0, 1, 0), (1, 4, 0), (4, 5, 0), (0, 2, 0), (2, 3, 0), (3, 5, 0)],
+                           longest=3)
+        self.assertEqual(brute.least_path(house, 0, 5, (0, 0, 0)), (0, 1, 4, 5))
+
+    def test_no_party_twice(self):
+        house = house_with(3, [(0, 1, 0), (1, 0, 0), (0, 2, 0)], longest=3)
+        self.assertEqual(brute.words(house, 0, 2), [(0,)])
+        self.assertIsNone(brute.least_path(house, 0, 2, (0, 0, 0)))
+
+
+class Mining(unittest.TestCase):
+
+    def test_two_terms(self):
+        data = file_with(3, [(0, 1, 0), (1, 2, 1)], [(0, 1), (1, 2)], labels=2, longest=1)
+        reply, scratch, output = brute.call_mining(data, bytes(1024), bytes(10))
+        self.assertEqual(reply, ("length", 10))
+        self.assertEqual(output, hexadecimal("02 00  01 00 01 00  01 00 01 04"))
+        self.assertEqual([at for at in range(1024) if scratch[at]], [1, 34])
+
+    def test_a_pair_that_an_earlier_term_permits_is_left_out(self):
+        # (0,1) has label 0 and (2,3) has labels 0 and 1; the term 00 permits both.
+        data = file_with(4, [(0, 1, 0), (2, 3, 0), (2, 3, 1)], [(0, 1), (2, 3)],
+                         labels=2, longest=1)
+        self.assertEqual(brute.call_mining(data, bytes(1024), bytes(6))[2],
+                         hexadecimal("01 00  01 00 01 00"))
+
+    def test_a_later_pair_may_be_permitted_only_by_its_own_term(self):
+        # (0,1) has labels 0 and 1, (0,2) has 0 and is unpermitted, (2,3) has 1 and is permitted.
+        data = file_with(4, [(0, 1, 0), (0, 1, 1), (0, 2, 0), (2, 3, 1)], [(0, 1), (2, 3)],
+                         labels=2, longest=1)
+        self.assertEqual(brute.call_mining(data, bytes(1024), bytes(20))[2][:12],
+                         hexadecimal("02 00  02 00 01 00 01 04  01 00 01 04"))
+
+    def test_words_are_added_in_the_order_of_the_unpermitted_pairs(self):
+        # (0,1) has labels 0, 1, 2. (0,2) lacks label 2, so it adds 08; (0,3) lacks label 1
+        # and meets 00 & 08, so it adds 04.
+        data = file_with(4, [(0, 1, 0), (0, 1, 1), (0, 1, 2), (0, 2, 0), (0, 2, 1),
+                             (0, 3, 0), (0, 3, 2)], [(0, 1)], labels=3, longest=1)
+        self.assertEqual(brute.call_mining(data, bytes(1024), bytes(10))[2],
+                         hexadecimal("01 00  03 00  01 00  01 08  01 04"))
+
+    def test_a_house_of_one_party(self):
+        data = hexadecimal("01 01 01 03 1F 00 00 00 00 00")
+        self.assertEqual(brute.call_verdict(data), ("convertible", 2))
+        self.assertEqual(brute.call_mining(data, b"\1" * 1024, b"\1\1"),
+                         (("length", 2), bytes(1024), bytes(2)))
+
+
+class RuleLists(unittest.TestCase):
+
+    def broken(self, text, data=None):
+        data = case_file("A") if data is None else data
+        self.assertEqual(brute.call_permit(data, hexadecimal(text), 0, 2), ("refused", 9), text)
+
+    def test_layout(self):
+        self.broken("")
+        self.broken("00")
+        self.broken("00 00 00")
+        self.broken("01 00")
+        self.broken("01 00 01")
+        self.broken("01 00 00 00")
+        self.broken("01 00 01 00")
+        self.broken("01 00 01 00 00")
+        self.broken("01 00 01 00 02 00")
+        self.broken("01 00 01 00 02 00 00 00")
+        self.broken("01 00 02 00 02 00 00")
+        self.broken("02 00 01 00 02 00 00")
+        self.broken("00 01")
+
+    def test_length_above_d(self):
+        self.broken("01 00 01 00 03 00 00 00")
+
+    def test_symbols(self):
+        self.broken("01 00 01 00 01 01")
+        self.broken("01 00 01 00 01 02")
+        self.broken("01 00 01 00 01 04")
+        self.broken("01 00 01 00 01 FF")
+        self.broken("01 00 01 00 01 02", file_with(3, [(0, 1, 0)], language=1))
+        self.broken("01 00 01 00 01 01", file_with(3, [(0, 1, 0)], language=2))
+        self.broken("01 00 01 00 01 20", file_with(3, [(0, 1, 0)], labels=8, language=3))
+
+    def test_the_whole_list_is_checked(self):
+        self.broken("02 00  01 00 02 00 00  00 00")
+        self.broken("02 00  01 00 02 00 00  01 00 01 04")
+
+    def test_the_empty_list_permits_nothing(self):
+        self.assertEqual(brute.call_permit(case_file("A"), hexadecimal("00 00"), 0, 2), ("no",))
+
+    def test_a_pair_meets_a_term_when_it_has_all_its_words(self):
+        data = case_file("H")
+        both = hexadecimal("01 00  02 00  01 00  01 04")
+        either = hexadecimal("02 00  01 00 01 00  01 00 01 04")
+        self.assertEqual(brute.call_permit(data, both, 0, 1), ("yes",))
+        self.assertEqual(brute.call_permit(data, both, 0, 2), ("no",))
+        self.assertEqual(brute.call_permit(data, either, 0, 2), ("yes",))
+        self.assertEqual(brute.call_permit(data, either, 1, 2), ("yes",))
+        self.assertEqual(brute.call_permit(data, either, 1, 0), ("no",))
+
+    def test_bytes_and_back(self):
+        rng = random.Random(5)
+        for _ in range(200):
+            house = house_with(3, [], labels=rng.randint(1, 8), language=rng.randint(0, 3),
+                               longest=rng.randint(1, 31))
+            symbols = brute.symbols(house)
+            terms = [[tuple(rng.choices(symbols, k=rng.randint(1, house.longest)))
+                      for _ in range(rng.randint(1, 4))] for _ in range(rng.randint(0, 4))]
+            self.assertEqual(brute.decode_list(house, brute.encode_list(terms)), terms)
+
+
+class RefusalOrder(unittest.TestCase):
+
+    BAD_FILE = b"\x02" + case_file("A")[1:]
+    A = case_file("A")
+
+    def test_mining(self):
+        scratch, output = b"\xAA" * 1030, b"\xBB" * 9
+        b = case_file("B")
+        self.assertEqual(brute.call_mining(self.BAD_FILE, b"", b""), (("refused", 2), b"", b""))
+        short = b"\xAA" * 1023
+        self.assertEqual(brute.call_mining(b, short, b""), (("refused", 12), short, b""))
+        self.assertEqual(brute.call_mining(self.A, short, b""), (("refused", 12), short, b""))
+        self.assertEqual(brute.call_mining(b, scratch, b""), (("refused", 13), scratch, b""))
+        self.assertEqual(brute.call_mining(b, scratch, output), (("refused", 13), scratch, output))
+        self.assertEqual(brute.call_mining(self.A, scratch, output[:6]),
+                         (("refused", 14), bytes(1024) + b"\xAA" * 6, output[:6]))
+        self.assertEqual(brute.call_mining(self.A, scratch, output[:7])[0], ("length", 7))
+
+    def path(self, data, u, v, word, room):
+        output = b"\xAA" * room
+        reply, after = brute.call_path(data, u, v, word, output)
+        if reply[0] != "parties":
+            self.assertEqual(after, output)
+        return reply
+
+    def test_path(self):
+        self.assertEqual(self.path(self.BAD_FILE, 9, 9, (), 0), ("refused", 2))
+        self.assertEqual(self.path(self.A, 0, 0, (), 0), ("refused", 10))
+        self.assertEqual(self.path(self.A, 0, 3, (), 0), ("refused", 10))
+        self.assertEqual(self.path(self.A, 3, 0, (), 0), ("refused", 10))
+        self.assertEqual(self.path(self.A, 255, 0, (), 0), ("refused", 10))
+        self.assertEqual(self.path(self.A, 0, 2, (), 0), ("refused", 11))
+        self.assertEqual(self.path(self.A, 0, 2, (), 9), ("refused", 11))
+        self.assertEqual(self.path(self.A, 0, 2, (0, 0, 0), 0), ("refused", 11))
+        self.assertEqual(self.path(self.A, 0, 2, (0, 1), 0), ("refused", 11))
+        self.assertEqual(self.path(self.A, 0, 2, (4, 0), 9), ("refused", 11))
+        self.assertEqual(self.path(self.A, 0, 2, (0, 0), 2), ("refused", 14))
+        self.assertEqual(self.path(self.A, 2, 0, (0, 0), 2), ("refused", 14))
+        self.assertEqual(self.path(self.A, 2, 0, (0, 0), 3), ("lacks",))
+        self.assertEqual(self.path(self.A, 0, 2, (0, 0), 3), ("parties", 3))
+
+    def following(self, data, u, v, word, room):
+        output = b"\xAA" * room
+        reply, after = brute.call_next_word(data, u, v, word, output)
+        if reply[0] != "length":
+            self.assertEqual(after, output)
+        return reply
+
+    def test_next_word(self):
+        self.assertEqual(self.following(self.BAD_FILE, 9, 9, (9,), 0), ("refused", 2))
+        self.assertEqual(self.following(self.A, 1, 1, (9,), 0), ("refused", 10))
+        self.assertEqual(self.following(self.A, 1, 3, (9,), 0), ("refused", 10))
+        self.assertEqual(self.following(self.A, 0, 2, (9,), 0), ("refused", 11))
+        self.assertEqual(self.following(self.A, 0, 2, (0, 0, 0), 0), ("refused", 11))
+        self.assertEqual(self.following(self.A, 0, 2, (), 30), ("refused", 14))
+        self.assertEqual(self.following(self.A, 2, 0, (), 30), ("refused", 14))
+        self.assertEqual(self.following(self.A, 2, 0, (), 31), ("none",))
+        self.assertEqual(self.following(self.A, 0, 2, (), 31), ("length", 2))
+        self.assertEqual(self.following(self.A, 0, 2, (0, 0), 31), ("none",))
+
+    def test_permit(self):
+        self.assertEqual(brute.call_permit(self.BAD_FILE, b"", 9, 9), ("refused", 2))
+        self.assertEqual(brute.call_permit(self.A, b"", 2, 2), ("refused", 10))
+        self.assertEqual(brute.call_permit(self.A, b"", 0, 3), ("refused", 10))
+        self.assertEqual(brute.call_permit(self.A, b"", 0, 2), ("refused", 9))
+
+    def test_verdict(self):
+        self.assertEqual(brute.call_verdict(self.BAD_FILE), ("refused", 2))
+        self.assertEqual(brute.call_verdict(b""), ("refused", 1))
+
+
+# ------------------------------------------- second reckonings, written differently
+
+def well_formed(data):
+    """01's statement of a house file, without any order of checks."""
+    if len(data) < 8:
+        return False
+    edition, n, labels, language, longest, spare, count = struct.unpack("<6BH", data[:8])
+    if edition != 1 or spare != 0 or count > 32 * 31 * 9 or language > 3:
+        return False
+    if n not in range(1, 33) or labels not in range(1, 9) or longest not in range(1, 32):
+        return False
+    if len(data) != 8 + 2 * n + 4 * count:
+        return False
+    heads = struct.unpack("<%dH" % n, data[8:8 + 2 * n])
+    records = [None] + list(struct.iter_unpack("<BBH", data[8 + 2 * n:]))
+    chains = [follow(head, records) for head in heads]
+    if sorted(itertools.chain(*chains)) != list(range(1, count + 1)):
+        return False
+    for party, chain in enumerate(chains):
+        sorts = [records[number][:2] for number in chain]
+        if len(set(sorts)) != len(sorts):
+            return False
+        for target, kind in sorts:
+            if target not in range(n) or target == party or kind not in [*range(labels), 255]:
+                return False
+    return True
+
+
+def follow(link, records):
+    """The links of a chain; a chain longer than all records is cut, since it repeats one."""
+    links = []
+    while link != 0 and len(links) <= len(records):
+        links.append(link)
+        if link >= len(records):
+            break
+        link = records[link][2]
+    return links
+
+
+def symbols_of_step(matter, a, b):
+    """The symbols from a to b: bit 0 of a kind means absent, bit 1 means inverse."""
+    found = []
+    for label in range(matter.labels):
+        for kind in range(4):
+            ends = (b, a) if kind & 2 else (a, b)
+            related = (*ends, label) in matter.edges
+            if kind & ~matter.language == 0 and related != bool(kind & 1):
+                found.append(4 * label + kind)
+    return found
+
+
+def words_by_permutations(matter, u, v):
+    """Each word of the pair with its least path: all choices of the parties between."""
+    between = [party for party in range(matter.n) if party not in (u, v)]
+    found = {}
+    for how_many in range(min(matter.longest, matter.n - 1)):
+        for middle in itertools.permutations(between, how_many):
+            parties = (u, *middle, v)
+            steps = [symbols_of_step(matter, a, b) for a, b in zip(parties, parties[1:])]
+            for word in itertools.product(*steps):
+                found.setdefault(word, parties)
+    return found
+
+
+def has_word(data, pair, word):
+    return brute.call_path(data, *pair, word, bytes(32))[0][0] == "parties"
+
+
+def first_words(data, pair):
+    """The pair's words, by next-word calls."""
+    word = b""
+    while True:
+        reply, output = brute.call_next_word(data, *pair, word, bytes(31))
+        if reply[0] != "length" or output[:reply[1]] == word:
+            return
+        word = output[:reply[1]]
+        yield word
+
+
+def mine_by_calls(data, matter):
+    """The bytes of the mined list, by path and next-word calls alone."""
+    everyone = list(itertools.permutations(range(matter.n), 2))
+    terms = []
+    for pair in [p for p in everyone if p in matter.permits]:
+        if any(all(has_word(data, pair, word) for word in term) for term in terms):
+            continue
+        term = [next(first_words(data, pair))]
+        for other in [p for p in everyone if p not in matter.permits]:
+            if all(has_word(data, other, word) for word in term):
+                term.append(next(w for w in first_words(data, pair)
+                                 if not has_word(data, other, w)))
+        terms.append(term)
+    out = struct.pack("<H", len(terms))
+    for term in terms:
+        out += struct.pack("<H", len(term)) + b"".join(bytes([len(w)]) + w for w in term)
+    return out
+
+
+def small_matter(rng):
+    """Matter small enough to list all paths, with a good part of its relations."""
+    n = rng.randint(1, 5)
+    labels = 1 if n > 4 else rng.randint(1, 2)
+    language = rng.randint(0, 3)
+    return files.random_matter(rng, n=n, labels=labels, language=language,
+                               longest=rng.randint(1, 5), most=n * n)
+
+
+def convertible_matter(rng):
+    """Like small_matter, but its permitted pairs are those of a random rule list."""
+    matter = small_matter(rng)
+    table = {pair: set(words_by_permutations(matter, *pair))
+             for pair in itertools.permutations(range(matter.n), 2)}
+    every = sorted(set().union(*table.values()))
+    permits = set()
+    for _ in range(rng.randint(0, 3) if every else 0):
+        term = set(rng.choices(every, k=rng.randint(1, 2)))
+        permits |= {pair for pair in table if term <= table[pair]}
+    return matter._replace(permits=permits)
+
+
+class SecondReckonings(unittest.TestCase):
+
+    def test_words_and_least_paths(self):
+        rng = random.Random(11)
+        for _ in range(250):
+            matter = small_matter(rng)
+            house = brute.decode(files.lay_out(matter, rng).bytes())
+            for u, v in itertools.permutations(range(matter.n), 2):
+                other = words_by_permutations(matter, u, v)
+                self.assertEqual(brute.words(house, u, v),
+                                 sorted(sorted(other), key=len), (matter, u, v))
+                for word in rng.sample(sorted(other), min(3, len(other))):
+                    self.assertEqual(brute.least_path(house, u, v, word), other[word])
+
+    def test_verdicts(self):
+        rng = random.Random(12)
+        kinds = {"convertible": 0, "no-word": 0, "rival": 0}
+        for number in range(800):
+            matter = convertible_matter(rng) if number % 2 else small_matter(rng)
+            data = files.lay_out(matter, rng).bytes()
+            answer = brute.call_verdict(data)
+            kinds[answer[0]] += 1
+            self.assertEqual(answer, self.verdict_by_sets(data, matter))
+        for kind, times in kinds.items():
+            self.assertGreater(times, 30, kind)
+
+    def verdict_by_sets(self, data, matter):
+        """The verdict by sets of words; the length is taken from mining."""
+        everyone = list(itertools.permutations(range(matter.n), 2))
+        table = {pair: set(words_by_permutations(matter, *pair)) for pair in everyone}
+        for pair in sorted(matter.permits):
+            rivals = [q for q in everyone if q not in matter.permits and table[pair] <= table[q]]
+            if not table[pair]:
+                return ("no-word", pair)
+            if rivals:
+                return ("rival", pair, min(rivals))
+        reply, _, _ = brute.call_mining(data, bytes(1024), bytes(100000))
+        return ("convertible", reply[1])
+
+    def test_a_rule_lists_pairs_are_convertible(self):
+        rng = random.Random(13)
+        several, added = 0, 0
+        for _ in range(250):
+            matter = convertible_matter(rng)
+            data = files.lay_out(matter, rng).bytes()
+            reply, scratch, output = brute.call_mining(data, b"\7" * 1025, b"\7" * 3000)
+            self.assertEqual(reply[0], "length")
+            listed = output[:reply[1]]
+            house = brute.decode(data)
+            terms = brute.decode_list(house, listed)
+            several += len(terms) > 1
+            added += any(len(term) > 1 for term in terms)
+            self.assertEqual({divmod(at, 32) for at in range(1024) if scratch[at]}, matter.permits)
+            self.assertEqual(scratch[1024:], b"\7")
+            self.assertEqual(output[reply[1]:], b"\7" * (3000 - reply[1]))
+            for pair in itertools.permutations(range(matter.n), 2):
+                answer = brute.call_permit(data, listed, *pair)
+                self.assertEqual(answer == ("yes",), pair in matter.permits)
+        self.assertGreater(several, 20)
+        self.assertGreater(added, 20)
+
+    def test_mining_by_calls(self):
+        rng = random.Random(14)
+        for _ in range(60):
+            matter = convertible_matter(rng)
+            if matter.n > 4:
+                continue
+            data = files.lay_out(matter, rng).bytes()
+            reply, _, output = brute.call_mining(data, bytes(1024), bytes(3000))
+            self.assertEqual(output[:reply[1]], mine_by_calls(data, matter))
+
+    def test_accepted_means_well_formed(self):
+        rng = random.Random(15)
+        made = [files.random_file(rng) for _ in range(1000)]
+        made += [files.twice_damaged_file(rng) for _ in range(1000)]
+        made += [files.byte_changed(files.random_file(rng), rng) for _ in range(1000)]
+        made += [files.random_links(rng) for _ in range(4000)]
+        for damage in files.DAMAGES:
+            made += [files.damaged_draft(rng, damage).bytes() for _ in range(50)]
+        for data in made:
+            self.assertEqual(brute.check(data) == 0, well_formed(data), data.hex(" "))
+
+
+class Files(unittest.TestCase):
+
+    def test_decode_gives_the_matter_back(self):
+        rng = random.Random(21)
+        for _ in range(1000):
+            matter = files.random_matter(rng)
+            data = files.lay_out(matter, rng).bytes()
+            self.assertEqual(brute.check(data), 0)
+            self.assertEqual(tuple(brute.decode(data)), tuple(matter))
+
+    def test_each_damage_has_its_number(self):
+        wanted = {
+            files.link_too_high: {3}, files.cycle: {4}, files.crossed: {4, 6, 8},
+            files.crossed_at_own_party: {4}, files.tails_exchanged: {0, 6, 8},
+            files.chain_cut_off: {5}, files.record_skipped: {5}, files.record_unnamed: {5},
+            files.cycle_unreached: {5}, files.target_too_high: {6}, files.target_own_party: {6},
+            files.kind_wrong: {7}, files.target_and_kind_wrong: {6},
+            files.repeat_in_chain: {8}, files.repeat_in_other_chain: {0},
+            files.header_field_wrong: {2}, files.count_off_by_one: {1},
+        }
+        rng = random.Random(22)
+        for damage, numbers in wanted.items():
+            found = {brute.check(files.damaged_draft(rng, damage).bytes()) for _ in range(300)}
+            self.assertEqual(found, numbers, damage.__name__)
+
+    def test_cut_and_lengthened(self):
+        rng = random.Random(23)
+        for _ in range(300):
+            data = files.random_file(rng)
+            self.assertEqual(brute.check(files.cut(data, rng)), 1)
+            self.assertEqual(brute.check(files.lengthened(data, rng)), 1)
+
+    def test_full_file(self):
+        data = files.full_draft(random.Random(24), 3, 31).bytes()
+        self.assertEqual(len(data), 35784)
+        self.assertEqual(brute.check(data), 0)
+        house = brute.decode(data)
+        self.assertEqual((len(house.edges), len(house.permits)), (7936, 992))
+
+    def test_the_longest_legal_chain(self):
+        rng = random.Random(25)
+        replies = [brute.check(files.one_chain_draft(rng, 31, *size).bytes())
+                   for size in ((279, 279), (280, 280), (279, 280), (8928, 8928))]
+        self.assertEqual(replies, [0, 8, 5, 8])
+
+
+class Script(unittest.TestCase):
+
+    def test_a_frame_by_hand(self):
+        self.assertEqual(
+            script.frame("p", b"\x11\x12", 3, 4, b"\x13", b"\x14\x15\x16", b"\x17" * 4),
+            hexadecimal("70 03 04 00  02 00 00 00  01 00 00 00  03 00 00 00  04 00 00 00"
+                        "  00 00 00 00  11 12  13  14 15 16  17 17 17 17"))
+        self.assertEqual(len(script.frame("c", b"")), 24)
+
+    def test_stored_rows(self):
+        self.assertEqual(stored.disagreements(), [])
+
+    def test_the_full_file_prints_992_relations(self):
+        data = files.full_draft(random.Random(26), 0, 31).bytes()
+        lines = script.decode_text(data).splitlines()
+        self.assertEqual(len(lines), 994)
+        self.assertEqual(lines[0], "decode 32 8 0 31")
+        self.assertEqual(lines[1].split()[:3], ["permits", "FFFFFFFE", "FFFFFFFD"])
+        self.assertEqual(lines[2], "relation 0 1 FF")
+        self.assertEqual(lines[-1], "relation 31 30 FF")
+
+    def test_missing_output_never_passes(self):
+        frames = [("c", case_file("A")), ("d", case_file("A")), ("c", b"")]
+        texts = [script.expected(call, data) for call, data in frames]
+        whole = "".join(texts)
+        self.assertEqual(run_cases.compare(frames, texts, whole)[0], [])
+        self.assertEqual(run_cases.compare(frames, texts, "")[0], [0, 1, 2])
+        self.assertEqual(run_cases.compare(frames, texts, texts[0])[0], [1, 2])
+        self.assertEqual(run_cases.compare(frames, texts, whole[:-1])[0], [2])
+        self.assertEqual(run_cases.compare(frames, texts, whole + "check accepted\n")[2], 1)
+
+
+if __name__ == "__main__":
+    unittest.main()
