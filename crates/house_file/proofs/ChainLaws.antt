@@ -20,7 +20,7 @@ use Rattle.masks.specs.declared.Row.{Row}
 use Rattle.masks.proofs.BitLaws.{test-with-same, test-with-other}
 use Rattle.masks.proofs.MaskLaws.{zero-bit}
 use Rattle.house_file.specs.Layout.{headOf, partiesOf, labelsOf, recordsOf, recordOf}
-use Rattle.house_file.specs.Check.{legalKind, legalTarget, judgeRecord, says, Walk, stopped, passed, onward, pick, walkChain}
+use Rattle.house_file.specs.Check.{legalKind, legalTarget, judgeRecord, recordCheck, says, Walk, stopped, passed, onward, pick, walkChain}
 use Rattle.house_file.specs.Decoded.{bitOf}
 use Rattle.house_file.specs.Reading.{Marks, RowOf, chainWalk}
 use Rattle.house_file.specs.declared.reply.Check.{Check}
@@ -48,8 +48,8 @@ any-no p l x e = any-more p l x ∙ ap (λ (b : Bool). anyOf p l || b) e ∙ or-
 pub marks-more : (marks seen : List ℕ) (r : ℕ) → 1 ≤ r → r - 1 < length marks → Marks marks seen → Marks (set marks (r - 1) 1) (seen ++ (r ∷ []))
 marks-more marks seen r h l m x k =
     by-cases (ℕ-discrete x r)
-      (λ q. rw (q, getD-set-same marks (r - 1) 1 0 l) (sym (any-yes (eqb r) seen r (eq-eqb r r refl))))
-      (λ q. rw (getD-set-other marks (r - 1) (x - 1) 1 0 (λ e. q (omega arith))) (m x k ∙ sym (any-no (eqb x) seen r (ne-eqb x r q))))
+    (λ q. rw (q, getD-set-same marks (r - 1) 1 0 l) (sym (any-yes (eqb r) seen r (eq-eqb r r refl))))
+    (λ q. rw (getD-set-other marks (r - 1) (x - 1) 1 0 (λ e. q (omega arith))) (m x k ∙ sym (any-no (eqb x) seen r (ne-eqb x r q))))
 
 -- a record's kind is added to the row
 pub row-none : (f : List ℕ) (row : Row) → ((v : ℕ) → maskIn row v ≡ 0) → RowOf f row []
@@ -57,18 +57,18 @@ unfolding anyOf
 row-none f row e t k h = rw (e t) (zero-bit (bitOf k))
 
 module _ (f : List ℕ) (few : labelsOf f ≤ 8) (row more : Row) (c : List ℕ) (r : ℕ) (legal : legalKind (labelsOf f) (recordOf f r .kind) ≡ true)
-  (same : maskIn more (recordOf f r .target) ≡ withBit (maskIn row (recordOf f r .target)) (bitOf (recordOf f r .kind)))
-  (other : (x : ℕ) → (x ≡ recordOf f r .target → ⊥) → maskIn more x ≡ maskIn row x) where
+    (same : maskIn more (recordOf f r .target) ≡ withBit (maskIn row (recordOf f r .target)) (bitOf (recordOf f r .kind)))
+    (other : (x : ℕ) → (x ≡ recordOf f r .target → ⊥) → maskIn more x ≡ maskIn row x) where
   pub row-more : RowOf f row c → RowOf f more (c ++ (r ∷ []))
   unfolding says
   row-more m t k h =
       by-cases (ℕ-discrete t (recordOf f r .target))
-        (λ q. by-cases (ℕ-discrete k (recordOf f r .kind))
-          (λ p. rw (q, p, same, test-with-same (maskIn row (recordOf f r .target)) (bitOf (recordOf f r .kind)))
-            (sym (any-yes (says f (recordOf f r .target) (recordOf f r .kind)) c r (rw (eq-eqb (recordOf f r .target) _ refl, eq-eqb (recordOf f r .kind) _ refl)))))
-          (λ p. rw (q, same, test-with-other (maskIn row (recordOf f r .target)) (bitOf (recordOf f r .kind)) (bitOf k) (λ e. p (bit-apart (labelsOf f) few k (recordOf f r .kind) h legal e)))
-            (m (recordOf f r .target) k h ∙ sym (any-no (says f (recordOf f r .target) k) c r (rw (ne-eqb (recordOf f r .kind) k (λ e. p (sym e))) (and-false (eqb (recordOf f r .target) (recordOf f r .target)) refl))))))
-        (λ q. rw (other t q) (m t k h ∙ sym (any-no (says f t k) c r (rw (ne-eqb (recordOf f r .target) t (λ e. q (sym e)))))))
+      (λ q. by-cases (ℕ-discrete k (recordOf f r .kind))
+      (λ p. rw (q, p, same, test-with-same (maskIn row (recordOf f r .target)) (bitOf (recordOf f r .kind)))
+      (sym (any-yes (says f (recordOf f r .target) (recordOf f r .kind)) c r (rw (eq-eqb (recordOf f r .target) _ refl, eq-eqb (recordOf f r .kind) _ refl)))))
+      (λ p. rw (q, same, test-with-other (maskIn row (recordOf f r .target)) (bitOf (recordOf f r .kind)) (bitOf k) (λ e. p (bit-apart (labelsOf f) few k (recordOf f r .kind) h legal e)))
+      (m (recordOf f r .target) k h ∙ sym (any-no (says f (recordOf f r .target) k) c r (rw (ne-eqb (recordOf f r .kind) k (λ e. p (sym e))) (and-false (eqb (recordOf f r .target) (recordOf f r .target)) refl))))))
+      (λ q. rw (other t q) (m t k h ∙ sym (any-no (says f t k) c r (rw (ne-eqb (recordOf f r .target) t (λ e. q (sym e)))))))
 
 -- the checks of record `at`, as the code makes them
 unfoldable pub judged : List ℕ → ℕ → List ℕ → Row → ℕ → Check
@@ -84,7 +84,7 @@ module _ (f : List ℕ) (u : ℕ) (marks : List ℕ) (row : Row) (at : ℕ) (e :
   pub clearer : (at ≡ 0 → ⊥) → at ≤ recordsOf f → at - 1 < length marks → clear marks (recordsOf f) ≡ suc (clear (set marks (at - 1) 1) (recordsOf f))
   clearer z l long =
       clear-set marks (at - 1) (recordsOf f) (omega (arith, z)) long
-        (eqb-true (getD marks (at - 1) 0) 0 (not-false (eqb (getD marks (at - 1) 0) 0) (tests .fresh)))
+      (eqb-true (getD marks (at - 1) 0) 0 (not-false (eqb (getD marks (at - 1) 0) 0) (tests .fresh)))
 
 -- a walk does not both stop and pass
 pub unlike : {G : Type 0} {w : Walk} {x : Refusal} {c : List ℕ} → w ≡ stopped x → w ≡ passed c → G
@@ -110,16 +110,15 @@ here-start f u before marks row at a e m = record {
   enough = omega (arith, clear-le marks (recordsOf f));
   marked = λ r h. m r h ∙ ap (member r) (sym (append-nil before));
   kinds = row-none f row e;
-  same = rw a }
+  same = rw a;
+}
 
 module _ (f : List ℕ) (u : ℕ) (before marks : List ℕ) (row : Row) (at : ℕ) (h : Here f u before marks row at) where
   -- one turn of the definition
   turn : (k : ℕ) → clear marks (recordsOf f) < k → walkChain f u k before (h .earlier) at
-    ≡ pick (eqb at 0) (passed (h .earlier))
+      ≡ pick (eqb at 0) (passed (h .earlier))
       (pick (ltb (recordsOf f) at) (stopped Link)
-      (onward
-        (judgeRecord (partiesOf f) (labelsOf f) u (recordOf f at) (member at (before ++ h .earlier)) (anyOf (says f (recordOf f at .target) (recordOf f at .kind)) (h .earlier)))
-        (walkChain f u (k - 1) before (h .earlier ++ (at ∷ [])) (recordOf f at .next))))
+      (onward (recordCheck f u before (h .earlier) at) (walkChain f u (k - 1) before (h .earlier ++ (at ∷ [])) (recordOf f at .next))))
   unfolding walkChain
   turn zero l = absurd (omega arith)
   turn (suc k) l = let p : suc k - 1 ≡ k = omega arith in rw p
@@ -132,25 +131,26 @@ module _ (f : List ℕ) (u : ℕ) (before marks : List ℕ) (row : Row) (at : �
 
   module _ (z : at ≡ 0 → ⊥) (l : at ≤ recordsOf f) where
     go-on : chainWalk f u before ≡ onward (judged f u marks row at) (walkChain f u (h .fuel - 1) before (h .earlier ++ (at ∷ [])) (recordOf f at .next))
-    unfolding judged
+    unfolding judged recordCheck
     go-on =
         h .same ∙ turn (h .fuel) (h .enough)
         ∙ rw (ne-eqb at 0 z, le-ltb (recordsOf f) at l)
-          (ap (λ (c : Check). onward c (walkChain f u (h .fuel - 1) before (h .earlier ++ (at ∷ [])) (recordOf f at .next)))
-            (sym (judge-same (partiesOf f) (labelsOf f) u (recordOf f at) _ _ _ _ (h .marked at (omega (arith, z))) (λ t k. h .kinds (recordOf f at .target) (recordOf f at .kind) k))))
+        (ap (λ (c : Check). onward c (walkChain f u (h .fuel - 1) before (h .earlier ++ (at ∷ [])) (recordOf f at .next)))
+        (sym (judge-same (partiesOf f) (labelsOf f) u (recordOf f at) _ _ _ _ (h .marked at (omega (arith, z))) (λ t k. h .kinds (recordOf f at .target) (recordOf f at .kind) k))))
 
     pub here-refused : (x : Refusal) → judged f u marks row at ≡ Refused x → chainWalk f u before ≡ stopped x
     here-refused x e = go-on ∙ rw e
 
     module _ (e : judged f u marks row at ≡ Accepted) (long : at - 1 < length marks) where
       pub here-next : (few : labelsOf f ≤ 8) (more : Row)
-        → maskIn more (recordOf f at .target) ≡ withBit (maskIn row (recordOf f at .target)) (bitOf (recordOf f at .kind))
-        → ((x : ℕ) → (x ≡ recordOf f at .target → ⊥) → maskIn more x ≡ maskIn row x)
-        → Here f u before (set marks (at - 1) 1) more (recordOf f at .next)
+          → maskIn more (recordOf f at .target) ≡ withBit (maskIn row (recordOf f at .target)) (bitOf (recordOf f at .kind))
+          → ((x : ℕ) → (x ≡ recordOf f at .target → ⊥) → maskIn more x ≡ maskIn row x)
+          → Here f u before (set marks (at - 1) 1) more (recordOf f at .next)
       here-next few more s o = record {
         earlier = h .earlier ++ (at ∷ []);
         fuel = h .fuel - 1;
         enough = omega (arith, clearer f u marks row at e z l long, h .enough);
         marked = λ r k. marks-more marks (before ++ h .earlier) at (omega (arith, z)) long (h .marked) r k ∙ ap (member r) (append-assoc before (h .earlier) (at ∷ []));
         kinds = row-more f few row more (h .earlier) at (tests f u marks row at e .kind) s o (h .kinds);
-        same = go-on ∙ rw e }
+        same = go-on ∙ rw e;
+      }

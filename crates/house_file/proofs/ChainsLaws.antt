@@ -30,18 +30,26 @@ pub chain-passed : (f : List ℕ) (u : ℕ) (before c : List ℕ) → chainWalk 
 unfolding chainOf
 chain-passed f u before c e =
     let h = walk-passed f u (recordsOf f) before [] (headOf f u) c e in
-    let r = h .right in
-    ( h .shape
-    , (record { linked = r .linked; target = r .target; kind = r .kind; once = r .once; different = r .different }
-    , λ s m n. both (member-in s (before ++ []) (rw (append-nil before) n)) (r .fresh s m)) )
+    let r = h .right in (
+      h .shape,
+      (
+        record { linked = r .linked; target = r .target; kind = r .kind; once = r .once; different = r .different },
+        λ s m n. both (member-in s (before ++ []) (rw (append-nil before) n)) (r .fresh s m),
+      ),
+    )
 
 pub passed-chain : (f : List ℕ) (u : ℕ) (before : List ℕ) → RightChain f u → ((s : ℕ) → List·Memᴰ s (chainOf f u) → List·Memᴰ s before → ⊥) → chainWalk f u before ≡ passed (chainOf f u)
 unfolding chainOf anyOf
 passed-chain f u before h apart =
     passed-walk f u (recordsOf f) before [] (headOf f u) (record {
-      linked = h .linked; target = h .target; kind = h .kind; once = h .once; different = h .different;
+      linked = h .linked;
+      target = h .target;
+      kind = h .kind;
+      once = h .once;
+      different = h .different;
       fresh = λ s m. rw (append-nil before) (member-not s before (apart s m));
-      new = λ s m. refl })
+      new = λ s m. refl;
+    })
 
 -- the chains of m parties from u on, one after another
 unfoldable pub chainsFrom : List ℕ → ℕ → ℕ → List ℕ
@@ -53,17 +61,17 @@ unfolding chainsFrom
 chains-in f u zero v s a b n = absurd (omega arith)
 chains-in f u (suc m) v s a b n =
     by-cases (ℕ-discrete v u)
-      (λ q. Memᴰ·append-left (chainsFrom f (suc u) m) (rw q at n))
-      (λ q. Memᴰ·append-right (chainOf f u) (chains-in f (suc u) m v s (omega (arith, q)) (omega arith) n))
+    (λ q. Memᴰ·append-left (chainsFrom f (suc u) m) (rw q at n))
+    (λ q. Memᴰ·append-right (chainOf f u) (chains-in f (suc u) m v s (omega (arith, q)) (omega arith) n))
 
 pub chains-out : (f : List ℕ) (u m : ℕ) {s : ℕ} → List·Memᴰ s (chainsFrom f u m) → (v : ℕ) × ((u ≤ v) × ((v < u + m) × List·Memᴰ s (chainOf f v)))
 unfolding chainsFrom
 chains-out f u zero n = absurd (List·Memᴰ·not-nil n)
 chains-out f u (suc m) {s} n =
     ⊎-elim
-      (λ (k : List·Memᴰ s (chainOf f u)). (u, (omega arith, (omega arith, k))))
-      (λ (k : List·Memᴰ s (chainsFrom f (suc u) m)). let r = chains-out f (suc u) m k in (r .0, (omega (arith, r .1 .0), (omega (arith, r .1 .1 .0), r .1 .1 .1))))
-      (List·Memᴰ·append-cases (chainOf f u) n)
+    (λ (k : List·Memᴰ s (chainOf f u)). (u, (omega arith, (omega arith, k))))
+    (λ (k : List·Memᴰ s (chainsFrom f (suc u) m)). let r = chains-out f (suc u) m k in (r .0, (omega (arith, r .1 .0), (omega (arith, r .1 .1 .0), r .1 .1 .1))))
+    (List·Memᴰ·append-cases (chainOf f u) n)
 
 -- m parties from u on, after the records `before`
 pub record RightChains (f : List ℕ) (u m : ℕ) (before : List ℕ) : Type 0 where
@@ -77,29 +85,33 @@ then-passed (passed d) g e = (d, (refl, e))
 
 pub walks-passed : (f : List ℕ) (u m : ℕ) (before all : List ℕ) → walkChains f u m before ≡ passed all → (all ≡ before ++ chainsFrom f u m) × RightChains f u m before
 unfolding walkChains chainsFrom
-walks-passed f u zero before all e =
-    ( cc (append-nil before)
-    , record { chain = λ v a b. absurd (omega arith); fresh = λ v s a b. absurd (omega arith); apart = λ v w s a b d. absurd (omega arith) } )
+walks-passed f u zero before all e = (
+  cc (append-nil before),
+  record { chain = λ v a b. absurd (omega arith); fresh = λ v s a b. absurd (omega arith); apart = λ v w s a b d. absurd (omega arith) },
+)
 walks-passed f u (suc m) before all e =
     let t = then-passed (chainWalk f u before) (λ c. walkChains f (suc u) m (before ++ c)) e in
     let p = chain-passed f u before (t .0) (t .1 .0) in
     let i = walks-passed f (suc u) m (before ++ t .0) all (t .1 .1) in
-    let h = i .1 in
-    ( i .0 ∙ append-assoc before (t .0) (chainsFrom f (suc u) m) ∙ ap (λ (c : List ℕ). before ++ (c ++ chainsFrom f (suc u) m)) (p .0)
-    , record {
+    let h = i .1 in (
+      i .0 ∙ append-assoc before (t .0) (chainsFrom f (suc u) m) ∙ ap (λ (c : List ℕ). before ++ (c ++ chainsFrom f (suc u) m)) (p .0),
+      record {
         chain = λ v a b. by-cases (ℕ-discrete v u) (λ q. rw q (p .1 .0)) (λ q. h .chain v (omega (arith, q)) (omega arith));
         fresh = λ v s a b n k. by-cases (ℕ-discrete v u) (λ q. p .1 .1 s (rw q at n) k) (λ q. h .fresh v s (omega (arith, q)) (omega arith) n (Memᴰ·append-left (t .0) k));
         apart = λ v w s a b d n k. by-cases (ℕ-discrete v u)
-          (λ q. h .fresh w s (omega arith) (omega arith) k (Memᴰ·append-right before (rw (p .0) (rw q at n))))
-          (λ q. h .apart v w s (omega (arith, q)) b (omega arith) n k) } )
+            (λ q. h .fresh w s (omega arith) (omega arith) k (Memᴰ·append-right before (rw (p .0) (rw q at n))))
+            (λ q. h .apart v w s (omega (arith, q)) b (omega arith) n k);
+      },
+    )
 
 pub passed-walks : (f : List ℕ) (u m : ℕ) (before : List ℕ) → RightChains f u m before → walkChains f u m before ≡ passed (before ++ chainsFrom f u m)
 unfolding walkChains chainsFrom
 passed-walks f u zero before h = ap passed (sym (append-nil before))
 passed-walks f u (suc m) before h =
     rw (passed-chain f u before (h .chain u (omega arith) (omega arith)) (λ s n. h .fresh u s (omega arith) (omega arith) n))
-      (passed-walks f (suc u) m (before ++ chainOf f u) (record {
-        chain = λ v a b. h .chain v (omega arith) (omega arith);
-        fresh = λ v s a b n k. ⊎-elim (λ (j : List·Memᴰ s before). h .fresh v s (omega arith) (omega arith) n j) (λ (j : List·Memᴰ s (chainOf f u)). h .apart u v s (omega arith) (omega arith) (omega arith) j n) (List·Memᴰ·append-cases before k);
-        apart = λ v w s a b d n k. h .apart v w s (omega arith) b (omega arith) n k })
-      ∙ ap passed (append-assoc before (chainOf f u) (chainsFrom f (suc u) m)))
+    (passed-walks f (suc u) m (before ++ chainOf f u) (record {
+      chain = λ v a b. h .chain v (omega arith) (omega arith);
+      fresh = λ v s a b n k. ⊎-elim (λ (j : List·Memᴰ s before). h .fresh v s (omega arith) (omega arith) n j) (λ (j : List·Memᴰ s (chainOf f u)). h .apart u v s (omega arith) (omega arith) (omega arith) j n) (List·Memᴰ·append-cases before k);
+      apart = λ v w s a b d n k. h .apart v w s (omega arith) b (omega arith) n k;
+    })
+    ∙ ap passed (append-assoc before (chainOf f u) (chainsFrom f (suc u) m)))

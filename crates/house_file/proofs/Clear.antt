@@ -36,5 +36,5 @@ unfolding clear
 clear-set marks i zero h l e = absurd (omega arith)
 clear-set marks i (suc n) h l e =
     by-cases (ℕ-discrete n i)
-      (λ q. rw (q, e, getD-set-same marks i 1 0 l, clear-past marks i i (omega arith)) (omega arith))
-      (λ q. rw (getD-set-other marks i n 1 0 q) (omega (arith, clear-set marks i n (omega (arith, q)) l e)))
+    (λ q. rw (q, e, getD-set-same marks i 1 0 l, clear-past marks i i (omega arith)) (omega arith))
+    (λ q. rw (getD-set-other marks i n 1 0 q) (omega (arith, clear-set marks i n (omega (arith, q)) l e)))

@@ -58,7 +58,8 @@ upto-start f n kinds e = record {
   count = omega arith;
   same = refl;
   rows = λ v h. absurd (omega arith);
-  empty = λ v t h. e v t }
+  empty = λ v t h. e v t;
+}
 
 module _ (f : List ℕ) (u : ℕ) (marks : List ℕ) (kinds : Table) (h : Upto f u marks kinds) where
   module _ (l : u < partiesOf f) where
@@ -72,8 +73,8 @@ module _ (f : List ℕ) (u : ℕ) (marks : List ℕ) (kinds : Table) (h : Upto f
     upto-refused x e = let w : walkChains f 0 (partiesOf f) [] ≡ stopped x = h .same ∙ turn (h .left) (h .count) ∙ rw e in rw w
 
     pub upto-next : (c marks′ : List ℕ) (row : Row) (kinds′ : Table) → chainWalk f u (h .before) ≡ passed c → Marks marks′ (h .before ++ c) → RowOf f row c
-      → ((t : ℕ) → maskAt kinds′ u t ≡ maskIn row t) → ((v t : ℕ) → (v ≡ u → ⊥) → maskAt kinds′ v t ≡ maskAt kinds v t)
-      → Upto f (u + 1) marks′ kinds′
+        → ((t : ℕ) → maskAt kinds′ u t ≡ maskIn row t) → ((v t : ℕ) → (v ≡ u → ⊥) → maskAt kinds′ v t ≡ maskAt kinds v t)
+        → Upto f (u + 1) marks′ kinds′
     upto-next c marks′ row kinds′ e m r s o =
         let q : c ≡ chainOf f u = chain-passed f u (h .before) c e .0 in
         record {
@@ -83,9 +84,10 @@ module _ (f : List ℕ) (u : ℕ) (marks : List ℕ) (kinds : Table) (h : Upto f
           count = omega (arith, h .count);
           same = h .same ∙ turn (h .left) (h .count) ∙ rw (e, add-one u);
           rows = λ v l′ t k g. by-cases (ℕ-discrete v u)
-            (λ p. rw (p, s t, ← q) (r t k g))
-            (λ p. rw (o v t p) (h .rows v (omega (arith, p)) t k g));
-          empty = λ v t g. o v t (λ p. omega arith) ∙ h .empty v t (omega arith) }
+              (λ p. rw (p, s t, ← q) (r t k g))
+              (λ p. rw (o v t p) (h .rows v (omega (arith, p)) t k g));
+          empty = λ v t g. o v t (λ p. omega arith) ∙ h .empty v t (omega arith);
+        }
 
   module _ (l : partiesOf f ≤ u) where
     done : (m : ℕ) → u + m ≡ partiesOf f → walkChains f u m (h .before) ≡ passed (h .before)
@@ -101,5 +103,5 @@ module _ (f : List ℕ) (u : ℕ) (marks : List ℕ) (kinds : Table) (h : Upto f
     unfolding recorded
     upto-kinds v t k g =
         by-cases (decLt v (partiesOf f))
-          (λ p. h .rows v (omega arith) t k g ∙ rw (lt-ltb v (partiesOf f) p))
-          (λ p. rw (h .empty v t (omega (arith, h .count)), le-ltb v (partiesOf f) (omega arith)) (zero-bit (bitOf k)))
+        (λ p. h .rows v (omega arith) t k g ∙ rw (lt-ltb v (partiesOf f) p))
+        (λ p. rw (h .empty v t (omega (arith, h .count)), le-ltb v (partiesOf f) (omega arith)) (zero-bit (bitOf k)))

@@ -22,5 +22,5 @@ module _ (marks seen : List ℕ) (m : Marks marks seen) (records : ℕ) where
   pub none-missing : ((i : ℕ) → i < records → getD marks i 0 ≡ 0 → ⊥) → everyReached records seen ≡ true
   none-missing f =
       all-of (λ s. member s seen) (upFrom 1 records) (λ s n.
-        let b = up-out 1 records n in
-        sym (m s (b .0)) ∙ ap not (ne-eqb (getD marks (s - 1) 0) 0 (f (s - 1) (omega (arith, b .0, b .1)))))
+      let b = up-out 1 records n in
+      sym (m s (b .0)) ∙ ap not (ne-eqb (getD marks (s - 1) 0) 0 (f (s - 1) (omega (arith, b .0, b .1)))))

@@ -55,15 +55,15 @@ module _ (l : ℕ) (few : l ≤ 8) where
   pub bit-apart : (k m : ℕ) → legalKind l k ≡ true → legalKind l m ≡ true → bitOf k ≡ bitOf m → k ≡ m
   bit-apart k m ek em e =
       ⊎-elim
-        (λ h. ⊎-elim
-          (λ j. sym (bit-label k (omega arith)) ∙ e ∙ bit-label m (omega arith))
-          (λ q. let b : bitOf k ≡ k = bit-label k (omega arith) in let z : bitOf m ≡ 31 = rw q in absurd (omega arith))
-          (kind-cases l m em))
-        (λ p. ⊎-elim
-          (λ j. let b : bitOf m ≡ m = bit-label m (omega arith) in let z : bitOf k ≡ 31 = rw p in absurd (omega arith))
-          (λ q. p ∙ sym q)
-          (kind-cases l m em))
-        (kind-cases l k ek)
+      (λ h. ⊎-elim
+      (λ j. sym (bit-label k (omega arith)) ∙ e ∙ bit-label m (omega arith))
+      (λ q. let b : bitOf k ≡ k = bit-label k (omega arith) in let z : bitOf m ≡ 31 = rw q in absurd (omega arith))
+      (kind-cases l m em))
+      (λ p. ⊎-elim
+      (λ j. let b : bitOf m ≡ m = bit-label m (omega arith) in let z : bitOf k ≡ 31 = rw p in absurd (omega arith))
+      (λ q. p ∙ sym q)
+      (kind-cases l m em))
+      (kind-cases l k ek)
 
 -- a record's checks
 module _ (n l u : ℕ) (r : Record) where
@@ -109,14 +109,14 @@ module _ (n l u : ℕ) (r : Record) where
       by-test T (λ t.
       by-test K (λ k.
       by-test p (λ q. unlike (judge-repeat a p e t k q) h)
-        (λ q. record { fresh = e; target = t; kind = k; new = q }))
-        (λ k. unlike (judge-kind a p e t k) h))
-        (λ t. unlike (judge-target a p e t) h))
+      (λ q. record { fresh = e; target = t; kind = k; new = q }))
+      (λ k. unlike (judge-kind a p e t k) h))
+      (λ t. unlike (judge-target a p e t) h))
 
   -- the repeat matters for legal targets and kinds only
   pub judge-same : (a b p q : Bool) → a ≡ b → (T ≡ true → K ≡ true → p ≡ q) → judgeRecord n l u r a p ≡ judgeRecord n l u r b q
   unfolding judgeRecord
   judge-same a b p q e f =
       by-test T
-        (λ t. by-test K (λ k. rw (e, f t k)) (λ k. rw (e, k)))
-        (λ t. rw (e, t))
+      (λ t. by-test K (λ k. rw (e, f t k)) (λ k. rw (e, k)))
+      (λ t. rw (e, t))

@@ -10,7 +10,7 @@ use Rattle.lists.specs.Lists.{anyOf, member}
 use Rattle.lists.proofs.Cases.{by-test, by-mem, both, clash}
 use Rattle.lists.proofs.ListLaws.{any-in, member-in, member-not, member-out}
 use Rattle.house_file.specs.Layout.{partiesOf, labelsOf, recordsOf, recordOf}
-use Rattle.house_file.specs.Check.{legalTarget, legalKind, judgeRecord, says, Walk, stopped, passed, onward, pick, walkChain}
+use Rattle.house_file.specs.Check.{legalTarget, legalKind, recordCheck, says, Walk, stopped, passed, onward, pick, walkChain}
 use Rattle.house_file.specs.Meaning.{chainFrom, Linked, Once}
 use Rattle.house_file.specs.declared.reply.Check.{Check}
 use Rattle.house_file.specs.declared.reply.Check.the-variants.{Accepted, Refused}
@@ -41,8 +41,8 @@ says-target : (f : List ℕ) (t k r : ℕ) → says f t k r ≡ true → (record
 unfolding says
 says-target f t k r e =
     by-test (eqb (recordOf f r .target) t)
-      (λ q. (eqb-true _ _ q, eqb-true _ _ (rw q at e)))
-      (λ q. clash (sym (rw q at e)))
+    (λ q. (eqb-true _ _ q, eqb-true _ _ (rw q at e)))
+    (λ q. clash (sym (rw q at e)))
 
 -- the turns of the chain
 chain-end : (f : List ℕ) (k r : ℕ) → r ≡ 0 → chainFrom f k r ≡ []
@@ -54,13 +54,8 @@ chain-step : (f : List ℕ) (k r : ℕ) → (r ≡ 0 → ⊥) → r ≤ recordsO
 unfolding chainFrom
 chain-step f k r z l = rw (ne-eqb r 0 z, le-ltb (recordsOf f) r l)
 
--- the checks of record r after these records
-abbrev verdictOf : List ℕ → ℕ → List ℕ → List ℕ → ℕ → Check
-verdictOf f u before earlier r =
-    judgeRecord (partiesOf f) (labelsOf f) u (recordOf f r) (member r (before ++ earlier)) (anyOf (says f (recordOf f r .target) (recordOf f r .kind)) earlier)
-
 walk-step : (f : List ℕ) (u k : ℕ) (before earlier : List ℕ) (r : ℕ) → (r ≡ 0 → ⊥) → r ≤ recordsOf f
-  → walkChain f u (suc k) before earlier r ≡ onward (verdictOf f u before earlier r) (walkChain f u k before (earlier ++ (r ∷ [])) (recordOf f r .next))
+    → walkChain f u (suc k) before earlier r ≡ onward (recordCheck f u before earlier r) (walkChain f u k before (earlier ++ (r ∷ [])) (recordOf f r .next))
 unfolding walkChain
 walk-step f u k before earlier r z l = rw (ne-eqb r 0 z, le-ltb (recordsOf f) r l)
 
@@ -83,15 +78,22 @@ nothing m = absurd (List·Memᴰ·not-nil m)
 
 right-end : (f : List ℕ) (u : ℕ) (before earlier : List ℕ) (r : ℕ) → r ≡ 0 → Right f u before earlier r []
 right-end f u before earlier r e = record {
-  linked = e; target = λ s m. nothing m; kind = λ s m. nothing m; fresh = λ s m. nothing m; once = tt; new = λ s m. nothing m;
-  different = λ s t m n p q. nothing m }
+  linked = e;
+  target = λ s m. nothing m;
+  kind = λ s m. nothing m;
+  fresh = λ s m. nothing m;
+  once = tt;
+  new = λ s m. nothing m;
+  different = λ s t m n p q. nothing m;
+}
 
 module _ (f : List ℕ) (u : ℕ) (before earlier : List ℕ) (r : ℕ) (c : List ℕ) (z : r ≡ 0 → ⊥) (l : r ≤ recordsOf f) where
   moved : (s : ℕ) → member s (before ++ (earlier ++ (r ∷ []))) ≡ member s ((before ++ earlier) ++ (r ∷ []))
   moved s = ap (member s) (sym (append-assoc before earlier (r ∷ [])))
 
   -- one record more in front
-  right-cons : verdictOf f u before earlier r ≡ Accepted → Right f u before (earlier ++ (r ∷ [])) (recordOf f r .next) c → Right f u before earlier r (r ∷ c)
+  right-cons : recordCheck f u before earlier r ≡ Accepted → Right f u before (earlier ++ (r ∷ [])) (recordOf f r .next) c → Right f u before earlier r (r ∷ c)
+  unfolding recordCheck
   right-cons e h =
       let p = judge-passed (partiesOf f) (labelsOf f) u (recordOf f r) _ _ e in
       record {
@@ -102,9 +104,10 @@ module _ (f : List ℕ) (u : ℕ) (before earlier : List ℕ) (r : ℕ) (c : Lis
         once = (λ m. both (any-yes (eqb r) (before ++ earlier) r (eq-eqb r r refl)) (sym (moved r) ∙ h .fresh r m), h .once);
         new = λ s m. by-mem m (λ q. rw q (p .new)) (λ n. any-left (says f (recordOf f s .target) (recordOf f s .kind)) earlier r (h .new s n));
         different = λ s t m n a b. by-mem m
-          (λ q. by-mem n (λ o. q ∙ sym o) (λ n′. both (says-same f r t (rw q at a) (rw q at b)) (any-last (says f (recordOf f t .target) (recordOf f t .kind)) earlier r (h .new t n′))))
-          (λ m′. by-mem n (λ o. both (says-same f r s (sym (rw o at a)) (sym (rw o at b))) (any-last (says f (recordOf f s .target) (recordOf f s .kind)) earlier r (h .new s m′)))
-            (λ n′. h .different s t m′ n′ a b)) }
+            (λ q. by-mem n (λ o. q ∙ sym o) (λ n′. both (says-same f r t (rw q at a) (rw q at b)) (any-last (says f (recordOf f t .target) (recordOf f t .kind)) earlier r (h .new t n′))))
+            (λ m′. by-mem n (λ o. both (says-same f r s (sym (rw o at a)) (sym (rw o at b))) (any-last (says f (recordOf f s .target) (recordOf f s .kind)) earlier r (h .new s m′)))
+            (λ n′. h .different s t m′ n′ a b));
+      }
 
   -- and off again
   right-tail : Right f u before earlier r (r ∷ c) → Right f u before (earlier ++ (r ∷ [])) (recordOf f r .next) c
@@ -118,11 +121,13 @@ module _ (f : List ℕ) (u : ℕ) (before earlier : List ℕ) (r : ℕ) (c : Lis
         fresh = λ s m. moved s ∙ any-no (eqb s) (before ++ earlier) r (ne-eqb s r (other s m)) ∙ h .fresh s (List·Memᴰ·tail m);
         once = h .once .1;
         new = λ s m. by-test (says f (recordOf f s .target) (recordOf f s .kind) r)
-          (λ q. let w = says-target f _ _ r q in absurd (other s m (sym (h .different r s here (List·Memᴰ·tail m) (w .0) (w .1)))))
-          (λ q. any-no (says f (recordOf f s .target) (recordOf f s .kind)) earlier r q ∙ h .new s (List·Memᴰ·tail m));
-        different = λ s t m n a b. h .different s t (List·Memᴰ·tail m) (List·Memᴰ·tail n) a b }
+            (λ q. let w = says-target f _ _ r q in absurd (other s m (sym (h .different r s here (List·Memᴰ·tail m) (w .0) (w .1)))))
+            (λ q. any-no (says f (recordOf f s .target) (recordOf f s .kind)) earlier r q ∙ h .new s (List·Memᴰ·tail m));
+        different = λ s t m n a b. h .different s t (List·Memᴰ·tail m) (List·Memᴰ·tail n) a b;
+      }
 
-  right-accepts : Right f u before earlier r (r ∷ c) → verdictOf f u before earlier r ≡ Accepted
+  right-accepts : Right f u before earlier r (r ∷ c) → recordCheck f u before earlier r ≡ Accepted
+  unfolding recordCheck
   right-accepts h =
       let here : List·Memᴰ r (r ∷ c) = List·Memᴰ·head refl in
       judge-accepts (partiesOf f) (labelsOf f) u (recordOf f r) _ _ (h .fresh r here) (h .target r here) (h .kind r here) (h .new r here)
@@ -151,26 +156,27 @@ no-turns f u before earlier r e = unlike refl e
 
 -- a walk that passed ended here, or went on over this record
 walk-cases : (f : List ℕ) (u k : ℕ) (before earlier : List ℕ) (r : ℕ) (c : List ℕ) → walkChain f u (suc k) before earlier r ≡ passed c
-  → ((z : r ≡ 0 → ⊥) (l : r ≤ recordsOf f) → verdictOf f u before earlier r ≡ Accepted → walkChain f u k before (earlier ++ (r ∷ [])) (recordOf f r .next) ≡ passed c → Passes f u k before earlier r c)
-  → Passes f u k before earlier r c
+    → ((z : r ≡ 0 → ⊥) (l : r ≤ recordsOf f) → recordCheck f u before earlier r ≡ Accepted → walkChain f u k before (earlier ++ (r ∷ [])) (recordOf f r .next) ≡ passed c → Passes f u k before earlier r c)
+    → Passes f u k before earlier r c
 walk-cases f u k before earlier r c e step =
     by-test (eqb r 0)
-      (λ q. let z : r ≡ 0 = eqb-true r 0 q in
-        let s : earlier ≡ c = cc (sym (walk-end f u k before earlier r z) ∙ e) in
-        record { shape = rw (chain-end f k r z) (sym s ∙ sym (append-nil earlier)); right = rw (chain-end f k r z) (right-end f u before earlier r z) })
-      (λ q. let z : r ≡ 0 → ⊥ = eqb-false r 0 q in
-        let l : r ≤ recordsOf f = inside f u k before earlier r e z in
-        let o = onward-passed (verdictOf f u before earlier r) (walkChain f u k before (earlier ++ (r ∷ [])) (recordOf f r .next)) (sym (walk-step f u k before earlier r z l) ∙ e) in
-        step z l (o .0) (o .1))
+    (λ q. let z : r ≡ 0 = eqb-true r 0 q in
+    let s : earlier ≡ c = cc (sym (walk-end f u k before earlier r z) ∙ e) in
+    record { shape = rw (chain-end f k r z) (sym s ∙ sym (append-nil earlier)); right = rw (chain-end f k r z) (right-end f u before earlier r z) })
+    (λ q. let z : r ≡ 0 → ⊥ = eqb-false r 0 q in
+    let l : r ≤ recordsOf f = inside f u k before earlier r e z in
+    let o = onward-passed (recordCheck f u before earlier r) (walkChain f u k before (earlier ++ (r ∷ [])) (recordOf f r .next)) (sym (walk-step f u k before earlier r z l) ∙ e) in
+    step z l (o .0) (o .1))
 
 pub walk-passed : (f : List ℕ) (u k : ℕ) (before earlier : List ℕ) (r : ℕ) (c : List ℕ) → walkChain f u (suc k) before earlier r ≡ passed c → Passes f u k before earlier r c
 walk-passed f u zero before earlier r c e = walk-cases f u zero before earlier r c e (λ z l a w. no-turns f u before (earlier ++ (r ∷ [])) (recordOf f r .next) w)
 walk-passed f u (suc k) before earlier r c e =
     walk-cases f u (suc k) before earlier r c e (λ z l a w.
-      let h = walk-passed f u k before (earlier ++ (r ∷ [])) (recordOf f r .next) c w in
-      record {
-        shape = rw (chain-step f k r z l) (h .shape ∙ append-assoc earlier (r ∷ []) (chainFrom f k (recordOf f r .next)));
-        right = rw (chain-step f k r z l) (right-cons f u before earlier r (chainFrom f k (recordOf f r .next)) z l a (h .right)) })
+    let h = walk-passed f u k before (earlier ++ (r ∷ [])) (recordOf f r .next) c w in
+    record {
+      shape = rw (chain-step f k r z l) (h .shape ∙ append-assoc earlier (r ∷ []) (chainFrom f k (recordOf f r .next)));
+      right = rw (chain-step f k r z l) (right-cons f u before earlier r (chainFrom f k (recordOf f r .next)) z l a (h .right));
+    })
 
 -- and back
 chain-stop : (f : List ℕ) (k r : ℕ) → recordsOf f < r → chainFrom f (suc k) r ≡ []
@@ -185,12 +191,12 @@ unfolding chainFrom
 passed-walk f u zero before earlier r h = passed-end f u zero before earlier r (h .linked)
 passed-walk f u (suc k) before earlier r h =
     by-test (eqb r 0)
-      (λ q. passed-end f u (suc k) before earlier r (eqb-true r 0 q))
-      (λ q. by-test (ltb (recordsOf f) r)
-        (λ g. let t : Right f u before earlier r [] = rw (chain-stop f k r (ltb-true (recordsOf f) r g)) at h in passed-end f u (suc k) before earlier r (t .linked))
-        (λ g. let z : r ≡ 0 → ⊥ = eqb-false r 0 q in
-          let l : r ≤ recordsOf f = ltb-false (recordsOf f) r g in
-          let t : Right f u before earlier r (r ∷ chainFrom f k (recordOf f r .next)) = rw (chain-step f k r z l) at h in
-          rw (chain-step f k r z l, walk-step f u (suc k) before earlier r z l, right-accepts f u before earlier r _ z l t)
-            (passed-walk f u k before (earlier ++ (r ∷ [])) (recordOf f r .next) (right-tail f u before earlier r _ z l t)
-              ∙ ap passed (append-assoc earlier (r ∷ []) (chainFrom f k (recordOf f r .next))))))
+    (λ q. passed-end f u (suc k) before earlier r (eqb-true r 0 q))
+    (λ q. by-test (ltb (recordsOf f) r)
+    (λ g. let t : Right f u before earlier r [] = rw (chain-stop f k r (ltb-true (recordsOf f) r g)) at h in passed-end f u (suc k) before earlier r (t .linked))
+    (λ g. let z : r ≡ 0 → ⊥ = eqb-false r 0 q in
+    let l : r ≤ recordsOf f = ltb-false (recordsOf f) r g in
+    let t : Right f u before earlier r (r ∷ chainFrom f k (recordOf f r .next)) = rw (chain-step f k r z l) at h in
+    rw (chain-step f k r z l, walk-step f u (suc k) before earlier r z l, right-accepts f u before earlier r _ z l t)
+    (passed-walk f u k before (earlier ++ (r ∷ [])) (recordOf f r .next) (right-tail f u before earlier r _ z l t)
+    ∙ ap passed (append-assoc earlier (r ∷ []) (chainFrom f k (recordOf f r .next))))))

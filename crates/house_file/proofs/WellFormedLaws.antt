@@ -51,7 +51,8 @@ fields-right f e0 =
       language = range-out 0 3 (languageOf f) (and-left _ _ e3) .1;
       longest = range-out 1 31 (longestOf f) (and-left _ _ e4);
       zeroByte = eqb-true (byteAt f 5) 0 (and-left _ _ e5);
-      records = leb-true (recordsOf f) 8928 e6 }
+      records = leb-true (recordsOf f) 8928 e6;
+    }
 
 right-fields : (f : List ℕ) → FieldsRight f → fieldsInRange f ≡ true
 unfolding fieldsInRange
@@ -110,7 +111,8 @@ framing f e =
       long = ltb-false (length f) 8 (a .0);
       fields = fields-right f (not-false (fieldsInRange f) (b .0));
       size = eqb-true (length f) (sizeOf f) (not-false (eqb (length f) (sizeOf f)) (d .0));
-      chains = d .1 }
+      chains = d .1;
+    }
 
 well-formed : (f : List ℕ) → checkOf f ≡ Accepted → WellFormed f
 unfolding chainsCheck
@@ -129,7 +131,8 @@ well-formed f e =
       apart = λ u v r l k m n. h .apart u v r (omega arith) l (omega arith) m n;
       target = λ u r l m. let t = h .chain u (omega arith) (omega arith) .target r m in (target-below _ u _ t, target-other (partiesOf f) u _ t);
       kind = λ u r l m. kind-cases (labelsOf f) (recordOf f r .kind) (h .chain u (omega arith) (omega arith) .kind r m);
-      different = λ u r s l. h .chain u (omega arith) (omega arith) .different r s }
+      different = λ u r s l. h .chain u (omega arith) (omega arith) .different r s;
+    }
 
 accepted : (f : List ℕ) → WellFormed f → checkOf f ≡ Accepted
 unfolding checkOf chainsCheck
@@ -138,15 +141,17 @@ accepted f h =
     (passed-refuse Field (ap not (right-fields f (h .fields)))
     (passed-refuse Length (ap not (eq-eqb (length f) (sizeOf f) (h .size)))
     (ap (reachedAll (recordsOf f)) (passed-walks f 0 (partiesOf f) [] (record {
-        chain = λ v a b. record {
-          linked = h .linked v (omega arith);
-          target = λ s m. let t = h .target v s (omega arith) m in target-legal (partiesOf f) v (recordOf f s .target) (t .0) (t .1);
-          kind = λ s m. kind-legal (labelsOf f) (recordOf f s .kind) (h .kind v s (omega arith) m);
-          once = h .once v (omega arith);
-          different = λ s t. h .different v s t (omega arith) };
-        fresh = λ v s a b m n. List·Memᴰ·not-nil n;
-        apart = λ v w s a b d m n. h .apart v w s b (omega arith) m n }))
-      ∙ reached-in (recordsOf f) (chainsFrom f 0 (partiesOf f)) (λ s a b. let r = h .reached s a b in chains-in f 0 (partiesOf f) (r .0) s (omega arith) (omega (arith, r .1 .0)) (r .1 .1)))))
+      chain = λ v a b. record {
+        linked = h .linked v (omega arith);
+        target = λ s m. let t = h .target v s (omega arith) m in target-legal (partiesOf f) v (recordOf f s .target) (t .0) (t .1);
+        kind = λ s m. kind-legal (labelsOf f) (recordOf f s .kind) (h .kind v s (omega arith) m);
+        once = h .once v (omega arith);
+        different = λ s t. h .different v s t (omega arith);
+      };
+      fresh = λ v s a b m n. List·Memᴰ·not-nil n;
+      apart = λ v w s a b d m n. h .apart v w s b (omega arith) m n;
+    }))
+    ∙ reached-in (recordsOf f) (chainsFrom f 0 (partiesOf f)) (λ s a b. let r = h .reached s a b in chains-in f 0 (partiesOf f) (r .0) s (omega arith) (omega (arith, r .1 .0)) (r .1 .1)))))
 
 -- a file is accepted exactly where it is well formed
 pub accepted-iff-well-formed : (f : List ℕ) → (checkOf f ≡ Accepted) ↔ WellFormed f

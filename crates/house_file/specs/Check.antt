@@ -63,6 +63,13 @@ judgeRecord n l u r again repeat =
 unfoldable pub says : List ℕ → ℕ → ℕ → ℕ → Bool
 says f t k s = eqb (recordOf f s .target) t && eqb (recordOf f s .kind) k
 
+-- the checks 4, 6, 7, 8 of record r of party u's chain. `before`: the records of the chains of lower parties; `earlier`: those of this chain
+unfoldable pub recordCheck : List ℕ → ℕ → List ℕ → List ℕ → ℕ → Check
+recordCheck f u before earlier r =
+    judgeRecord (partiesOf f) (labelsOf f) u (recordOf f r)
+    (member r (before ++ earlier))
+    (anyOf (says f (recordOf f r .target) (recordOf f r .kind)) earlier)
+
 -- what a walk along chains gives: a refusal, or the numbers of the records that it passed, in order
 pub data Walk : Type 0 where
   stopped : Refusal → Walk
@@ -80,17 +87,14 @@ abbrev pub pick {ℓ} : {A : Type ℓ} → Bool → A → A → A
 pick true a b = a
 pick false a b = b
 
--- Along party u's chain from record r on. `before`: the records of the chains of lower parties; `earlier`: those of this chain.
+-- Along party u's chain from record r on.
 -- A chain passes each record once, so R + 1 turns are enough, and a turn more could only meet a record again.
 unfoldable pub walkChain : List ℕ → ℕ → ℕ → List ℕ → List ℕ → ℕ → Walk
 walkChain f u zero before earlier r = stopped Again
 walkChain f u (suc k) before earlier r =
     pick (eqb r 0) (passed earlier)
     (pick (ltb (recordsOf f) r) (stopped Link)
-    (onward
-      (judgeRecord (partiesOf f) (labelsOf f) u (recordOf f r) (member r (before ++ earlier))
-        (anyOf (says f (recordOf f r .target) (recordOf f r .kind)) earlier))
-      (walkChain f u k before (earlier ++ (r ∷ [])) (recordOf f r .next))))
+    (onward (recordCheck f u before earlier r) (walkChain f u k before (earlier ++ (r ∷ [])) (recordOf f r .next))))
 
 abbrev pub andThen : Walk → (List ℕ → Walk) → Walk
 andThen (stopped x) g = stopped x

@@ -65,4 +65,4 @@ pub record WellFormed (f : List ℕ) : Type 0 where
   pub kind : (u r : ℕ) → u < partiesOf f → List·Memᴰ r (chainOf f u) → (recordOf f r .kind < labelsOf f) ⊎ (recordOf f r .kind ≡ permitKind)
   -- no two records of a chain have both target and kind equal
   pub different : (u r s : ℕ) → u < partiesOf f → List·Memᴰ r (chainOf f u) → List·Memᴰ s (chainOf f u)
-    → recordOf f r .target ≡ recordOf f s .target → recordOf f r .kind ≡ recordOf f s .kind → r ≡ s
+      → recordOf f r .target ≡ recordOf f s .target → recordOf f r .kind ≡ recordOf f s .kind → r ≡ s

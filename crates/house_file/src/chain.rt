@@ -28,12 +28,18 @@ pub fn read_chain(file: &[u8], h: Header, u: usize, marks: &mut [u8; 8928]) -> C
     let mut at = u16_at(file, 8 + 2 * u);
     while at != 0 {
         if h.records < at {
-            return Chain { reply: Check::Refused(Refusal::Link), row };
+            return Chain {
+                reply: Check::Refused(Refusal::Link),
+                row,
+            };
         }
         let x = read_record(file, h.parties, at);
         let reply = check_record(h, u, x, marks[at - 1], row);
         match reply {
-            Check::Refused(e) => return Chain { reply: Check::Refused(e), row },
+            Check::Refused(e) => return Chain {
+                reply: Check::Refused(e),
+                row,
+            },
             Check::Accepted => {
                 marks[at - 1] = 1;
                 row = masks::add(row, x.target, bit_of(x.kind));
@@ -41,5 +47,8 @@ pub fn read_chain(file: &[u8], h: Header, u: usize, marks: &mut [u8; 8928]) -> C
             }
         }
     }
-    Chain { reply: Check::Accepted, row }
+    Chain {
+        reply: Check::Accepted,
+        row,
+    }
 }

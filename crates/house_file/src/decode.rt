@@ -6,7 +6,7 @@ ghost use lib.ListN.{length};
 ghost use Rattle.masks.specs.Mask.{testBit};
 ghost use Rattle.masks.specs.Table.{maskIn, maskAt};
 ghost use Rattle.house_file.specs.Check.{checkOf};
-ghost use Rattle.house_file.specs.Decoded.{Decoded};
+ghost use Rattle.house_file.specs.Decoded.{ReadAs};
 ghost use Rattle.house_file.specs.Reading.{Framed, Marks, everyReached, ChainsRead};
 use crate::chain::read_chain;
 use crate::header::Header;
@@ -142,8 +142,7 @@ fn refused(e: Refusal) -> Reading
 
 // Checks and decodes any bytes.
 pub fn read(file: &[u8]) -> Reading
-    ensures { λ r. ⌜ r .reply ≡ checkOf (now (file .entry)) ⌝ }
-    ensures { λ r. ⌜ (checkOf (now (file .entry)) ≡ Check.Accepted → Decoded (now (file .entry)) (r .house)) ⌝ }
+    ensures { λ r. ⌜ ReadAs (now (file .entry)) r ⌝ }
 {
     if file.len() < 8 {
         return refused(Refusal::Length);

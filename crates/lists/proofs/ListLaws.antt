@@ -46,16 +46,16 @@ module _ {A : Type 0} where
   filter-in p [] m e = absurd (List·Memᴰ·not-nil m)
   filter-in p (y ∷ ys) m e =
       by-test (p y)
-        (λ q. rw (q, filterBy) (by-mem m (λ r. List·Memᴰ·head r) (λ n. List·Memᴰ·tail (filter-in p ys n e))))
-        (λ q. rw (q, filterBy) (by-mem m (λ r. both e (ap p r ∙ q)) (λ n. filter-in p ys n e)))
+      (λ q. rw (q, filterBy) (by-mem m (λ r. List·Memᴰ·head r) (λ n. List·Memᴰ·tail (filter-in p ys n e))))
+      (λ q. rw (q, filterBy) (by-mem m (λ r. both e (ap p r ∙ q)) (λ n. filter-in p ys n e)))
 
   pub filter-out : (p : A → Bool) (l : List A) {x : A} → List·Memᴰ x (filterBy p l) → List·Memᴰ x l × (p x ≡ true)
   unfolding filterBy
   filter-out p [] m = absurd (List·Memᴰ·not-nil m)
   filter-out p (y ∷ ys) m =
       by-test (p y)
-        (λ q. by-mem (rw (q, filterBy) at m) (λ r. (List·Memᴰ·head r, rw r q)) (λ n. let k = filter-out p ys n in (List·Memᴰ·tail (k .0), k .1)))
-        (λ q. let k = filter-out p ys (rw (q, filterBy) at m) in (List·Memᴰ·tail (k .0), k .1))
+      (λ q. by-mem (rw (q, filterBy) at m) (λ r. (List·Memᴰ·head r, rw r q)) (λ n. let k = filter-out p ys n in (List·Memᴰ·tail (k .0), k .1)))
+      (λ q. let k = filter-out p ys (rw (q, filterBy) at m) in (List·Memᴰ·tail (k .0), k .1))
 
   pub find-none : (p : A → Bool) (l : List A) → firstBy p l ≡ none → {x : A} → List·Memᴰ x l → p x ≡ false
   unfolding firstBy
@@ -80,8 +80,8 @@ module _ {A : Type 0} where
   find-some p [] {x} h = clash (cc h)
   find-some p (y ∷ ys) {x} h =
       by-test (p y)
-        (λ q. let e : y ≡ x = cc (rw (q, firstBy) at h) in record { pre = []; post = ys; split = cc; here = rw (← e) q; before = λ m. absurd (List·Memᴰ·not-nil m) })
-        (λ q. let r = find-some p ys (rw (q, firstBy) at h) in record { pre = y ∷ r .pre; post = r .post; split = ap (λ (l : List A). y ∷ l) (r .split); here = r .here; before = λ m. by-mem m (λ e. rw e q) (λ n. r .before n) })
+      (λ q. let e : y ≡ x = cc (rw (q, firstBy) at h) in record { pre = []; post = ys; split = cc; here = rw (← e) q; before = λ m. absurd (List·Memᴰ·not-nil m) })
+      (λ q. let r = find-some p ys (rw (q, firstBy) at h) in record { pre = y ∷ r .pre; post = r .post; split = ap (λ (l : List A). y ∷ l) (r .split); here = r .here; before = λ m. by-mem m (λ e. rw e q) (λ n. r .before n) })
 
   pub find-in : (p : A → Bool) (l : List A) {x : A} → firstBy p l ≡ some x → List·Memᴰ x l
   unfolding firstBy

@@ -53,7 +53,7 @@ pow-bit-other : (v k : ℕ) → (k ≡ v → ⊥) → bitAt (2 ^ v) k ≡ 0
 pow-bit-other v k ne =
     by-cases (decLt v k) (λ l. pow-bit-above v k l)
     (λ g. let e : suc (v - k - 1) + k ≡ v = omega arith in
-      subst (λ (x : ℕ). bitAt (2 ^ x) k ≡ 0) e (pow-bit-below k (v - k - 1)))
+    subst (λ (x : ℕ). bitAt (2 ^ x) k ≡ 0) e (pow-bit-below k (v - k - 1)))
 
 -- the place v of `n | (1 << v)` is set, and every other is as in n
 pub bit-with-same : (n v : ℕ) → bitAt (bitOr n (2 ^ v)) v ≡ 1
@@ -93,10 +93,10 @@ ones-with n v e =
     let r : ℕ = n % 2 ^ v in
     let lt : n % 2 ^ v < 2 ^ v = mod-lt n (pow-pos v) in
     let a : bitOr n (2 ^ v) ≡ bitOr q 1 * 2 ^ v + r =
-      ap (λ (x : ℕ). bitOr x (2 ^ v)) (sym (split n v))
-      ∙ ap (λ (x : ℕ). bitOr (n / 2 ^ v * 2 ^ v + n % 2 ^ v) x) (omega arith)
-      ∙ or-block v (n / 2 ^ v) 1 (n % 2 ^ v) 0 lt (pow-pos v)
-      ∙ ap (λ (x : ℕ). bitOr (n / 2 ^ v) 1 * 2 ^ v + x) (or-zero-r (n % 2 ^ v)) in
+    ap (λ (x : ℕ). bitOr x (2 ^ v)) (sym (split n v))
+    ∙ ap (λ (x : ℕ). bitOr (n / 2 ^ v * 2 ^ v + n % 2 ^ v) x) (omega arith)
+    ∙ or-block v (n / 2 ^ v) 1 (n % 2 ^ v) 0 lt (pow-pos v)
+    ∙ ap (λ (x : ℕ). bitOr (n / 2 ^ v) 1 * 2 ^ v + x) (or-zero-r (n % 2 ^ v)) in
     let b : ones n ≡ ones q + ones r = ap ones (sym (split n v)) ∙ ones-cat v q r lt in
     let d : ones (bitOr q 1) ≡ ones (q / 2) + 1 = ap ones (or-one-step q e) ∙ ones-odd (q / 2) in
     let g : ones q ≡ q % 2 + ones (q / 2) = ones-step q in
@@ -119,11 +119,11 @@ some-bit : (n : ℕ) → (n ≡ 0 → ⊥) → (k : ℕ) × (bitAt n k ≡ 1)
 some-bit =
     bin-ind (λ (n : ℕ). (n ≡ 0 → ⊥) → (k : ℕ) × (bitAt n k ≡ 1)) (λ z. absurd (z refl))
     (λ n ih z. ⊎-elim
-      (λ e. let q : (n / 2 ≡ 0 → ⊥) = λ y. z (omega (arith, e)) in
-        let w : (k : ℕ) × (bitAt (n / 2) k ≡ 1) = ih q in
-        (1 + w .0, ap (λ (x : ℕ). x % 2) (sym (shr-shr n 1 (w .0))) ∙ w .1))
-      (λ e. (0, e))
-      (bit-cases n 0))
+    (λ e. let q : (n / 2 ≡ 0 → ⊥) = λ y. z (omega (arith, e)) in
+    let w : (k : ℕ) × (bitAt (n / 2) k ≡ 1) = ih q in
+    (1 + w .0, ap (λ (x : ℕ). x % 2) (sym (shr-shr n 1 (w .0))) ∙ w .1))
+    (λ e. (0, e))
+    (bit-cases n 0))
 
 -- some place from f on is set where `n >> f` is not 0
 pub some-from : (n f : ℕ) → (n / 2 ^ f ≡ 0 → ⊥) → (k : ℕ) × ((f ≤ k) × (bitAt n k ≡ 1))

@@ -33,24 +33,24 @@ module _ (p : ℕ → Bool) (v mask : ℕ) (h : Filled p v mask) where
   below : (x : ℕ) → (x ≡ v → ⊥) → ltb x v ≡ ltb x (v + 1)
   below x ne =
       by-cases (decLt x v)
-        (λ l. lt-ltb x v l ∙ sym (lt-ltb x (v + 1) (omega arith)))
-        (λ g. le-ltb x v (omega arith) ∙ sym (le-ltb x (v + 1) (omega (arith, ne))))
+      (λ l. lt-ltb x v l ∙ sym (lt-ltb x (v + 1) (omega arith)))
+      (λ g. le-ltb x v (omega arith) ∙ sym (le-ltb x (v + 1) (omega (arith, ne))))
 
   pub filled-with : p v ≡ true → Filled p (v + 1) (withBit mask v)
   filled-with e x =
       by-cases (ℕ-discrete x v)
-        (λ q. rw (q, test-with-same mask v, lt-ltb v (v + 1) (omega arith), e))
-        (λ q. test-with-other mask v x q ∙ h x ∙ ap (λ (b : Bool). b && p x) (below x q))
+      (λ q. rw (q, test-with-same mask v, lt-ltb v (v + 1) (omega arith), e))
+      (λ q. test-with-other mask v x q ∙ h x ∙ ap (λ (b : Bool). b && p x) (below x q))
 
   pub filled-without : p v ≡ false → Filled p (v + 1) mask
   filled-without e x =
       by-cases (ℕ-discrete x v)
-        (λ q. rw q (h v ∙ rw (le-ltb v v (omega arith), lt-ltb v (v + 1) (omega arith), e)))
-        (λ q. h x ∙ ap (λ (b : Bool). b && p x) (below x q))
+      (λ q. rw q (h v ∙ rw (le-ltb v v (omega arith), lt-ltb v (v + 1) (omega arith), e)))
+      (λ q. h x ∙ ap (λ (b : Bool). b && p x) (below x q))
 
   -- where nothing passes from v on, the mask has all places that pass
   pub filled-all : ((x : ℕ) → v ≤ x → p x ≡ false) → (x : ℕ) → testBit mask x ≡ p x
   filled-all e x =
       by-cases (decLt x v)
-        (λ l. h x ∙ rw (lt-ltb x v l))
-        (λ g. h x ∙ rw (le-ltb x v (omega arith), e x (omega arith)))
+      (λ l. h x ∙ rw (lt-ltb x v l))
+      (λ g. h x ∙ rw (le-ltb x v (omega arith), e x (omega arith)))

@@ -2,10 +2,7 @@
 use Rattle.masks.proofs.TableLaws.{getD-zeros}
 use Rattle.masks.proofs.empty_row.Statement.{statement}
 use Rattle.masks.proofs.empty_row.Tie as tie
-use Rattle.masks.proofs.empty_row.Reads as reads
-use Rattle.masks.proofs.empty_row.Lts as lts
 
--- src/lib.rt:34:1
 returns : tie.Need-returns
 returns c = getD-zeros 32
 

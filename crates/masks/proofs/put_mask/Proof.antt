@@ -8,18 +8,13 @@ use lib.Seq.{getD-set-same, getD-set-other}
 use borrow.Author.Needs.{needs}
 use Rattle.masks.proofs.put_mask.Statement.{statement}
 use Rattle.masks.proofs.put_mask.Tie as tie
-use Rattle.masks.proofs.put_mask.Reads as reads
-use Rattle.masks.proofs.put_mask.Lts as lts
 
--- src/lib.rt:54:5
 mul-row : tie.Need-mul-row
 mul-row c = search needs
 
--- src/lib.rt:54:5
 element-write-row : tie.Need-element-write-row
 element-write-row c = search needs
 
--- src/lib.rt:49:1
 returns : tie.Need-returns
 returns c =
     let a = c .args in

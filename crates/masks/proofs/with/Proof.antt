@@ -3,14 +3,10 @@ use Rattle.masks.proofs.BitLaws.{with-code}
 use borrow.Author.Needs.{needs}
 use Rattle.masks.proofs.with.Statement.{statement}
 use Rattle.masks.proofs.with.Tie as tie
-use Rattle.masks.proofs.with.Reads as reads
-use Rattle.masks.proofs.with.Lts as lts
 
--- src/lib.rt:30:13
 shl-result : tie.Need-shl-result
 shl-result c = search needs
 
--- src/lib.rt:26:1
 returns : tie.Need-returns
 returns c =
     with-code 32 _ _ (c .pre)

@@ -1,5 +1,5 @@
-use borrow.Author.Needs.{needs}
 -- Each turn is one turn of the definition (ChainLaws); the marks that are clear fall.
+use borrow.Author.Needs.{needs}
 use mathlib.Core.Path.{_≡_, refl, sym, ap, _∙_}
 use mathlib.Core.List.{List}
 use mathlib.Core.Bool.{true}
@@ -17,14 +17,6 @@ use Rattle.house_file.proofs.Clear.{clear}
 use Rattle.house_file.proofs.ChainLaws.{Here, judged, here-start, here-end, here-link, here-refused, here-next, tests, clearer, unlike}
 use Rattle.house_file.proofs.chain.read_chain.Statement.{statement}
 use Rattle.house_file.proofs.chain.read_chain.Tie as tie
-use Rattle.house_file.proofs.chain.read_chain.Reads as reads
-use Rattle.house_file.proofs.chain.read_chain.Lts as lts
-use Rattle.house_file.proofs.header.u16_at.Reads as u16-at-reads
-use Rattle.house_file.proofs.record.bit_of.Reads as bit-of-reads
-use Rattle.house_file.proofs.record.check_record.Reads as check-record-reads
-use Rattle.house_file.proofs.record.read_record.Reads as read-record-reads
-use Rattle.masks.proofs.add.Reads as add-reads
-use Rattle.masks.proofs.empty_row.Reads as empty-row-reads
 
 abbrev Inv-loop : tie.InvT-loop
 Inv-loop file h u marks₀ row₀ at₀ marks row at = (length marks ≡ 8928) × ((before : List ℕ) → Marks marks₀ before → Here file u before marks row at)
@@ -45,12 +37,12 @@ long c = omega (arith, in-file c, c .before .before .before .before .before .bef
 
 -- the record's checks are those of the definition's turn
 checked : (c : tie.After-check-record Inv-loop μ-loop)
-  → c .check-record .result ≡ judged (c .before .before .before .before .before .before .before .before .before .before .args .file .now) (c .before .before .before .before .before .before .before .before .before .before .args .u) (c .before .before .before .before .before .before .loop .marks) (c .before .before .before .before .before .before .loop .row) (c .before .before .before .before .before .before .loop .at)
+    → c .check-record .result ≡ judged (c .before .before .before .before .before .before .before .before .before .before .args .file .now) (c .before .before .before .before .before .before .before .before .before .before .args .u) (c .before .before .before .before .before .before .loop .marks) (c .before .before .before .before .before .before .loop .row) (c .before .before .before .before .before .before .loop .at)
 unfolding judged
 checked c = c .check-record .ensures ∙ rw (c .before .before .read-record .ensures, numbers (c .before .before .before .before .before .before .before .before .before .before))
 
 accepted : (c : tie.After-enum-told Inv-loop μ-loop)
-  → judged (c .before .before .before .before .before .before .before .before .before .before .before .before .args .file .now) (c .before .before .before .before .before .before .before .before .before .before .before .before .args .u) (c .before .before .before .before .before .before .before .before .loop .marks) (c .before .before .before .before .before .before .before .before .loop .row) (c .before .before .before .before .before .before .before .before .loop .at) ≡ Accepted
+    → judged (c .before .before .before .before .before .before .before .before .before .before .before .before .args .file .now) (c .before .before .before .before .before .before .before .before .before .before .before .before .args .u) (c .before .before .before .before .before .before .before .before .loop .marks) (c .before .before .before .before .before .before .before .before .loop .row) (c .before .before .before .before .before .before .before .before .loop .at) ≡ Accepted
 accepted c = sym (checked (c .before .before)) ∙ c .enum-told .given .1
 
 -- what an accepted record's tests say of the record that was read
@@ -61,115 +53,99 @@ legal : (c : tie.After-enum-told Inv-loop μ-loop) → legalKind (labelsOf (c .b
 legal c = rw (c .before .before .before .before .read-record .ensures) (tests _ _ _ _ _ (accepted c) .kind)
 
 below : (c : tie.After-enum-told Inv-loop μ-loop) → c .before .before .before .before .read-record .result .target < 32
-below c = 
+below c =
     let t : recordOf (c .before .before .before .before .before .before .before .before .before .before .before .before .args .file .now) (c .before .before .before .before .before .before .before .before .loop .at) .target < partiesOf (c .before .before .before .before .before .before .before .before .before .before .before .before .args .file .now) = target-below _ _ _ (tests _ _ _ _ _ (accepted c) .target) in
     rw (c .before .before .before .before .read-record .ensures) (omega (arith, ap (λ (h : Header). h .parties) (numbers (c .before .before .before .before .before .before .before .before .before .before .before .before)), c .before .before .before .before .before .before .before .before .before .before .before .before .pre .0 .parties))
 
 fewer : (c : tie.After-enum-told Inv-loop μ-loop)
-  → clear (c .before .before .before .before .before .before .before .before .loop .marks) (recordsOf (c .before .before .before .before .before .before .before .before .before .before .before .before .args .file .now)) ≡ suc (clear (set (c .before .before .before .before .before .before .before .before .loop .marks) (c .before .before .before .before .before .before .before .before .loop .at - 1) 1) (recordsOf (c .before .before .before .before .before .before .before .before .before .before .before .before .args .file .now)))
+    → clear (c .before .before .before .before .before .before .before .before .loop .marks) (recordsOf (c .before .before .before .before .before .before .before .before .before .before .before .before .args .file .now)) ≡ suc (clear (set (c .before .before .before .before .before .before .before .before .loop .marks) (c .before .before .before .before .before .before .before .before .loop .at - 1) 1) (recordsOf (c .before .before .before .before .before .before .before .before .before .before .before .before .args .file .now)))
 fewer c = clearer _ _ _ _ _ (accepted c) (c .before .before .before .before .before .before .before .loop-test .taken) (in-file (c .before .before .before .before .before)) (rw (c .before .before .before .before .before .before .before .before .loop .inv .0) (long (c .before .before .before .before .before)))
 
--- src/chain.rt:25:9
 empty-row-requires : tie.Need-empty-row-requires Inv-loop μ-loop
 empty-row-requires c κs = search needs
 
--- src/chain.rt:26:35
 mul-u16-at : tie.Need-mul-u16-at Inv-loop μ-loop
 mul-u16-at c = search needs
 
--- src/chain.rt:26:31
 add-u16-at : tie.Need-add-u16-at Inv-loop μ-loop
 add-u16-at c = search needs
 
--- src/chain.rt:26:9
 u16-at-requires : tie.Need-u16-at-requires Inv-loop μ-loop
 u16-at-requires c κs = omega (arith, ap (λ (h : Header). h .parties) (numbers (c .before .before)), c .before .before .pre .0 .size, c .before .before .pre .1 .0)
 
--- src/chain.rt:27:5
 loop-holds : tie.Need-loop-holds Inv-loop μ-loop
 loop-holds c = (c .before .before .before .pre .1 .1, λ before m. here-start _ _ before _ _ _ (c .u16-at .ensures .0) (c .before .empty-row .ensures) m)
 
--- src/chain.rt:29:13
 returns : tie.Need-returns Inv-loop μ-loop
 returns c =
     let l = c .before .before .before .loop in
-    let n = ap (λ (h : Header). h .records) (numbers (c .before .before .before .before .before .before .before)) in
-    ( l .inv .0
-    , λ before m.
-      let w = here-link _ _ before _ _ _ (l .inv .1 before m) (c .before .before .loop-test .taken) (omega (arith, n, c .if1 .taken)) in
-      record { reply = rw w; kept = λ p e. unlike w e } )
+    let n = ap (λ (h : Header). h .records) (numbers (c .before .before .before .before .before .before .before)) in (
+      l .inv .0,
+      λ before m.
+          let w = here-link _ _ before _ _ _ (l .inv .1 before m) (c .before .before .loop-test .taken) (omega (arith, n, c .if1 .taken)) in
+          record { reply = rw w; kept = λ p e. unlike w e },
+    )
 
--- src/chain.rt:31:13
 read-record-requires : tie.Need-read-record-requires Inv-loop μ-loop
 read-record-requires c κs = (ap (λ (h : Header). h .parties) (numbers (c .before .before .before .before .before .before .before)), (c .before .before .before .before .before .before .before .pre .0 .size, (omega (arith, c .before .before .loop-test .taken), in-file c)))
 
--- src/chain.rt:32:49
 sub-check-record : tie.Need-sub-check-record Inv-loop μ-loop
 sub-check-record c = search needs
 
--- src/chain.rt:32:43
 element-copy-out-check-record : tie.Need-element-copy-out-check-record Inv-loop μ-loop
 element-copy-out-check-record c = long (c .before)
 
--- src/chain.rt:32:13
 check-record-requires : tie.Need-check-record-requires Inv-loop μ-loop
 check-record-requires c κs = (c .before .before .before .before .before .before .before .before .before .pre .0 .parties, c .before .before .before .before .before .before .before .before .before .pre .0 .labels)
 
--- src/chain.rt:34:28
 enum-known-reply : tie.Need-enum-known-reply Inv-loop μ-loop
 enum-known-reply c = search needs
 
--- src/chain.rt:34:34
 returns-2 : tie.Need-returns-2 Inv-loop μ-loop
 returns-2 c =
-    let l = c .before .before .before .before .before .before .before .before .before .loop in
-    ( l .inv .0
-    , λ before m.
-      let w = here-refused _ _ before _ _ _ (l .inv .1 before m) (c .before .before .before .before .before .before .before .before .loop-test .taken) (in-file (c .before .before .before .before .before .before)) _ (sym (checked (c .before .before .before)) ∙ c .before .reply .given .1) in
-      record { reply = rw w; kept = λ p e. unlike w e } )
+    let l = c .before .before .before .before .before .before .before .before .before .loop in (
+      l .inv .0,
+      λ before m.
+          let w = here-refused _ _ before _ _ _ (l .inv .1 before m) (c .before .before .before .before .before .before .before .before .loop-test .taken) (in-file (c .before .before .before .before .before .before)) _ (sym (checked (c .before .before .before)) ∙ c .before .reply .given .1) in
+          record { reply = rw w; kept = λ p e. unlike w e },
+    )
 
--- src/chain.rt:36:23
 enum-told : tie.Need-enum-told Inv-loop μ-loop
 enum-told c = search needs
 
--- src/chain.rt:36:23
 sub-marks : tie.Need-sub-marks Inv-loop μ-loop
 sub-marks c = search needs
 
--- src/chain.rt:36:17
 element-write-marks : tie.Need-element-write-marks Inv-loop μ-loop
 element-write-marks c = long (c .before .before .before .before .before)
 
--- src/chain.rt:37:49
 bit-of-requires : tie.Need-bit-of-requires Inv-loop μ-loop
 bit-of-requires c κs = kind-small _ (few (c .before .before .before .before .before .before .before .before .before .before .before .before)) _ (legal c)
 
--- src/chain.rt:37:17
 add-requires : tie.Need-add-requires Inv-loop μ-loop
 add-requires c κs = (below (c .before), rw (c .bit-of .ensures) (bit-small _ (few (c .before .before .before .before .before .before .before .before .before .before .before .before .before)) _ (legal (c .before))))
 
--- src/chain.rt:27:5
 loop-less : tie.Need-loop-less Inv-loop μ-loop
 loop-less c = omega (arith, fewer (c .before .before))
 
--- src/chain.rt:27:5
 loop-again : tie.Need-loop-again Inv-loop μ-loop
 loop-again c =
     let l = c .before .before .before .before .before .before .before .before .before .before .loop in
-    let x = c .before .before .before .before .before .before .read-record .ensures in
-    ( length-set (l .marks) _ _ ∙ l .inv .0
-    , λ before m. rw x (here-next _ _ before _ _ _ (l .inv .1 before m) (c .before .before .before .before .before .before .before .before .before .loop-test .taken) (in-file (c .before .before .before .before .before .before .before)) (accepted (c .before .before)) (rw (l .inv .0) (long (c .before .before .before .before .before .before .before))) (few (c .before .before .before .before .before .before .before .before .before .before .before .before .before .before)) (c .add .result)
-        (rw x at (rw (c .before .bit-of .ensures) at (c .add .ensures .0))) (rw x at (c .add .ensures .1))) )
+    let x = c .before .before .before .before .before .before .read-record .ensures in (
+      length-set (l .marks) _ _ ∙ l .inv .0,
+      λ before m. rw x (here-next _ _ before _ _ _ (l .inv .1 before m) (c .before .before .before .before .before .before .before .before .before .loop-test .taken) (in-file (c .before .before .before .before .before .before .before)) (accepted (c .before .before)) (rw (l .inv .0) (long (c .before .before .before .before .before .before .before))) (few (c .before .before .before .before .before .before .before .before .before .before .before .before .before .before)) (c .add .result)
+          (rw x at (rw (c .before .bit-of .ensures) at (c .add .ensures .0))) (rw x at (c .add .ensures .1))),
+    )
 
--- src/chain.rt:21:1
 returns-3 : tie.Need-returns-3 Inv-loop μ-loop
 returns-3 c =
-    let l = c .before .loop in
-    ( l .inv .0
-    , λ before m.
-      let h = l .inv .1 before m in
-      let w = here-end _ _ before _ _ _ h (c .loop-test .left) in
-      record { reply = rw w; kept = λ p e. let q : h .earlier ≡ p = cc in rw (← q) (h .marked, h .kinds) } )
+    let l = c .before .loop in (
+      l .inv .0,
+      λ before m.
+          let h = l .inv .1 before m in
+          let w = here-end _ _ before _ _ _ h (c .loop-test .left) in
+          record { reply = rw w; kept = λ p e. let q : h .earlier ≡ p = cc in rw (← q) (h .marked, h .kinds) },
+    )
 
 pub read-chain-spec : {M : Type 1} → statement M
 read-chain-spec =

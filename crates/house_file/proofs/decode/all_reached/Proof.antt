@@ -8,8 +8,6 @@ use native.Mathlib.Omega.{arith}
 use Rattle.house_file.proofs.ReachedLaws.{one-missing, none-missing}
 use Rattle.house_file.proofs.decode.all_reached.Statement.{statement}
 use Rattle.house_file.proofs.decode.all_reached.Tie as tie
-use Rattle.house_file.proofs.decode.all_reached.Reads as reads
-use Rattle.house_file.proofs.decode.all_reached.Lts as lts
 
 abbrev Inv-loop : tie.InvT-loop
 Inv-loop marks records i₀ i = (i ≤ records) × ((k : ℕ) → k < i → getD marks k 0 ≡ 0 → ⊥)
@@ -17,31 +15,24 @@ Inv-loop marks records i₀ i = (i ≤ records) × ((k : ℕ) → k < i → getD
 abbrev μ-loop : tie.MeasureT-loop
 μ-loop marks records i₀ i = records - i
 
--- src/decode.rt:44:5
 loop-holds : tie.Need-loop-holds Inv-loop μ-loop
 loop-holds c = search needs
 
--- src/decode.rt:45:12
 element-copy-out-if1 : tie.Need-element-copy-out-if1 Inv-loop μ-loop
 element-copy-out-if1 c = search needs
 
--- src/decode.rt:46:13
 returns : tie.Need-returns Inv-loop μ-loop
 returns c = λ seen m. sym (one-missing (c .before .before .before .before .args .marks .now) seen m (c .before .before .before .before .args .records) (c .before .before .before .loop .i) (c .before .before .loop-test .taken) (c .if1 .taken))
 
--- src/decode.rt:48:9
 add-i : tie.Need-add-i Inv-loop μ-loop
 add-i c = search needs
 
--- src/decode.rt:44:5
 loop-less : tie.Need-loop-less Inv-loop μ-loop
 loop-less c = search needs
 
--- src/decode.rt:44:5
 loop-again : tie.Need-loop-again Inv-loop μ-loop
 loop-again c = (search needs, below-more _ _ (c .before .before .before .loop .inv .1) (c .if1 .left))
 
--- src/decode.rt:39:1
 returns-2 : tie.Need-returns-2 Inv-loop μ-loop
 returns-2 c =
     let l = c .before .loop in

@@ -10,13 +10,8 @@ use Rattle.masks.specs.Mask.{testBit}
 use Rattle.masks.specs.Table.{maskIn}
 use Rattle.masks.specs.declared.Row.{Row}
 use Rattle.masks.proofs.MaskLaws.{Filled, filled-none, filled-with, filled-without, filled-all, zero-bit}
-
 use Rattle.house_file.proofs.decode.permit_mask.Statement.{statement}
 use Rattle.house_file.proofs.decode.permit_mask.Tie as tie
-use Rattle.house_file.proofs.decode.permit_mask.Reads as reads
-use Rattle.house_file.proofs.decode.permit_mask.Lts as lts
-use Rattle.masks.proofs.has.Reads as has-reads
-use Rattle.masks.proofs.with.Reads as with-reads
 
 -- the parties that a row has a permit for
 abbrev permits : Row → ℕ → Bool
@@ -28,50 +23,41 @@ Inv-loop row mask₀ v₀ mask v = (v ≤ 32) × Filled (permits row) v mask
 abbrev μ-loop : tie.MeasureT-loop
 μ-loop row mask₀ v₀ mask v = 32 - v
 
--- src/decode.rt:97:5
 loop-holds : tie.Need-loop-holds Inv-loop μ-loop
 loop-holds c = (search needs, filled-none _)
 
--- src/decode.rt:98:17
 cast-i : tie.Need-cast-i Inv-loop μ-loop
 cast-i c = search needs
 
--- src/decode.rt:99:23
 mul-has : tie.Need-mul-has Inv-loop μ-loop
 mul-has c = search needs
 
--- src/decode.rt:99:23
 element-copy-out-has : tie.Need-element-copy-out-has Inv-loop μ-loop
 element-copy-out-has c = search needs
 
--- src/decode.rt:99:12
 has-requires : tie.Need-has-requires Inv-loop μ-loop
 has-requires c κs = search needs
 
--- src/decode.rt:100:13
 with-requires : tie.Need-with-requires Inv-loop μ-loop
 with-requires c κs = search needs
 
--- src/decode.rt:102:9
 add-v : tie.Need-add-v Inv-loop μ-loop
 add-v c = search needs
 
--- src/decode.rt:97:5
 loop-less : tie.Need-loop-less Inv-loop μ-loop
 loop-less c = search needs
 
--- src/decode.rt:97:5
 loop-again : tie.Need-loop-again Inv-loop μ-loop
 loop-again c =
     let l = c .before .before .before .before .loop in
-    let row = c .before .before .before .before .before .args .t1 in
-    ( search needs
-    , ⊎-elim
-      (λ w. rw (w .2 ∙ w .1 .ensures) (filled-with (permits row) (l .v) (l .mask) (l .inv .1) (sym (c .before .has .ensures) ∙ w .0 .taken)))
-      (λ w. rw (w .1) (filled-without (permits row) (l .v) (l .mask) (l .inv .1) (sym (c .before .has .ensures) ∙ w .0 .left)))
-      (c .if1 .came) )
+    let row = c .before .before .before .before .before .args .t1 in (
+      search needs,
+      ⊎-elim
+          (λ w. rw (w .2 ∙ w .1 .ensures) (filled-with (permits row) (l .v) (l .mask) (l .inv .1) (sym (c .before .has .ensures) ∙ w .0 .taken)))
+          (λ w. rw (w .1) (filled-without (permits row) (l .v) (l .mask) (l .inv .1) (sym (c .before .has .ensures) ∙ w .0 .left)))
+          (c .if1 .came),
+    )
 
--- src/decode.rt:92:1
 returns : tie.Need-returns Inv-loop μ-loop
 returns c =
     let l = c .before .loop in

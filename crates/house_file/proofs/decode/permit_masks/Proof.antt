@@ -11,11 +11,6 @@ use Rattle.masks.specs.Table.{maskIn, maskAt, noRow}
 use Rattle.masks.proofs.MaskLaws.{zero-bit}
 use Rattle.house_file.proofs.decode.permit_masks.Statement.{statement}
 use Rattle.house_file.proofs.decode.permit_masks.Tie as tie
-use Rattle.house_file.proofs.decode.permit_masks.Reads as reads
-use Rattle.house_file.proofs.decode.permit_masks.Lts as lts
-use Rattle.house_file.proofs.decode.permit_mask.Reads as permit-mask-reads
-use Rattle.masks.proofs.empty_row.Reads as empty-row-reads
-use Rattle.masks.proofs.put_mask.Reads as put-mask-reads
 
 abbrev Inv-loop : tie.InvT-loop
 Inv-loop kinds permits₀ u₀ permits u =
@@ -24,57 +19,50 @@ Inv-loop kinds permits₀ u₀ permits u =
 abbrev μ-loop : tie.MeasureT-loop
 μ-loop kinds permits₀ u₀ permits u = 32 - u
 
--- src/decode.rt:111:9
 empty-row-requires : tie.Need-empty-row-requires Inv-loop μ-loop
 empty-row-requires c κs = search needs
 
--- src/decode.rt:113:5
 loop-holds : tie.Need-loop-holds Inv-loop μ-loop
 loop-holds c = (search needs, (λ x v h. absurd (omega arith), λ x h. c .empty-row .ensures x))
 
--- src/decode.rt:114:19
 mul-row : tie.Need-mul-row Inv-loop μ-loop
 mul-row c = search needs
 
--- src/decode.rt:114:19
 element-copy-out-row : tie.Need-element-copy-out-row Inv-loop μ-loop
 element-copy-out-row c = search needs
 
--- src/decode.rt:115:47
 permit-mask-requires : tie.Need-permit-mask-requires Inv-loop μ-loop
 permit-mask-requires c κs = search needs
 
--- src/decode.rt:115:9
 put-mask-requires : tie.Need-put-mask-requires Inv-loop μ-loop
 put-mask-requires c κs = search needs
 
--- src/decode.rt:116:9
 add-u : tie.Need-add-u Inv-loop μ-loop
 add-u c = search needs
 
--- src/decode.rt:113:5
 loop-less : tie.Need-loop-less Inv-loop μ-loop
 loop-less c = search needs
 
--- src/decode.rt:113:5
 loop-again : tie.Need-loop-again Inv-loop μ-loop
 loop-again c =
-    let l = c .before .before .before .before .loop in
-    ( search needs
-    , ( λ x v h. by-cases (ℕ-discrete x (l .u))
-        (λ q. rw (q, c .put-mask .ensures .0) (c .before .permit-mask .ensures v))
-        (λ q. rw (c .put-mask .ensures .1 x q) (l .inv .1 .0 x v (omega (arith, q))))
-      , λ x h. c .put-mask .ensures .1 x (λ q. omega arith) ∙ l .inv .1 .1 x (omega arith) ) )
+    let l = c .before .before .before .before .loop in (
+      search needs,
+      (
+        λ x v h. by-cases (ℕ-discrete x (l .u))
+            (λ q. rw (q, c .put-mask .ensures .0) (c .before .permit-mask .ensures v))
+            (λ q. rw (c .put-mask .ensures .1 x q) (l .inv .1 .0 x v (omega (arith, q)))),
+        λ x h. c .put-mask .ensures .1 x (λ q. omega arith) ∙ l .inv .1 .1 x (omega arith),
+      ),
+    )
 
--- src/decode.rt:108:1
 returns : tie.Need-returns Inv-loop μ-loop
 returns c =
     let l = c .before .loop in
     let t = c .before .before .before .args .t1 in
     let n : length (t .rows) ≡ 32 = sym (length-map (t .rows) _) ∙ c .before .before .before .good .0 .1 .1 .0 .1 .0 .1 in
     λ u v. by-cases (decLt u 32)
-      (λ h. l .inv .1 .0 u v (omega arith))
-      (λ h. rw (l .inv .1 .1 u (omega arith), List·getD-eq-default (t .rows) noRow {n = u} (omega arith)) (zero-bit v ∙ sym (zero-bit 31)))
+    (λ h. l .inv .1 .0 u v (omega arith))
+    (λ h. rw (l .inv .1 .1 u (omega arith), List·getD-eq-default (t .rows) noRow {n = u} (omega arith)) (zero-bit v ∙ sym (zero-bit 31)))
 
 pub permit-masks-spec : {M : Type 1} → statement M
 permit-masks-spec =

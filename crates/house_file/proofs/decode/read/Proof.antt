@@ -16,13 +16,6 @@ use Rattle.house_file.proofs.WellFormedLaws.{check-short, check-field, 
 use borrow.Author.Needs.{needs}
 use Rattle.house_file.proofs.decode.read.Statement.{statement}
 use Rattle.house_file.proofs.decode.read.Tie as tie
-use Rattle.house_file.proofs.decode.read.Reads as reads
-use Rattle.house_file.proofs.decode.read.Lts as lts
-use Rattle.house_file.proofs.decode.permit_masks.Reads as permit-masks-reads
-use Rattle.house_file.proofs.decode.read_chains.Reads as read-chains-reads
-use Rattle.house_file.proofs.decode.refused.Reads as refused-reads
-use Rattle.house_file.proofs.header.fields_in_range.Reads as fields-in-range-reads
-use Rattle.house_file.proofs.header.read_header.Reads as read-header-reads
 
 -- the header's fields, in range
 in-range : (c : tie.Else2) → fieldsInRange (c .before .before .before .before .before .args .file .now) ≡ true
@@ -46,61 +39,48 @@ sized c = c .if3 .left ∙ rw (parties-of (c .before .before .before), records-o
 checked : (c : tie.Else3) → checkOf (c .before .before .before .before .before .before .before .before .args .file .now) ≡ chainsCheck (c .before .before .before .before .before .before .before .before .args .file .now)
 checked c = check-chains _ (c .before .before .before .before .before .before .if1 .left) (in-range (c .before .before .before)) (sized c)
 
--- src/decode.rt:149:9
 refused-requires : tie.Need-refused-requires
 refused-requires c κs = search needs
 
--- src/decode.rt:149:9
 returns : tie.Need-returns
 returns c =
     let w = check-short _ (c .before .if1 .taken) in
-    (c .refused .ensures ∙ sym w, λ a. refused-not w a)
+    record { reply = c .refused .ensures ∙ sym w; house = λ a. refused-not w a }
 
--- src/decode.rt:151:9
 read-header-requires : tie.Need-read-header-requires
 read-header-requires c κs = search needs
 
--- src/decode.rt:152:9
 fields-in-range-requires : tie.Need-fields-in-range-requires
 fields-in-range-requires c κs = search needs
 
--- src/decode.rt:153:9
 refused-requires-2 : tie.Need-refused-requires-2
 refused-requires-2 c κs = search needs
 
--- src/decode.rt:153:9
 returns-2 : tie.Need-returns-2
 returns-2 c =
     let w = check-field _ (c .before .before .before .before .if1 .left) (sym (c .before .before .fields-in-range .ensures) ∙ not-true (c .before .before .fields-in-range .result) (c .before .if2 .taken)) in
-    (c .refused2 .ensures ∙ sym w, λ a. refused-not w a)
+    record { reply = c .refused2 .ensures ∙ sym w; house = λ a. refused-not w a }
 
--- src/decode.rt:155:26
 mul-if3 : tie.Need-mul-if3
 mul-if3 c = omega (arith, parties-of (c .before), right (c .before) .parties .1, records-of (c .before), right (c .before) .records)
 
--- src/decode.rt:155:22
 add-if3 : tie.Need-add-if3
 add-if3 c = omega (arith, parties-of (c .before), right (c .before) .parties .1, records-of (c .before), right (c .before) .records)
 
--- src/decode.rt:155:42
 mul-if3-2 : tie.Need-mul-if3-2
 mul-if3-2 c = omega (arith, parties-of (c .before .before), right (c .before .before) .parties .1, records-of (c .before .before), right (c .before .before) .records)
 
--- src/decode.rt:155:22
 add-if3-2 : tie.Need-add-if3-2
 add-if3-2 c = omega (arith, parties-of (c .before .before), right (c .before .before) .parties .1, records-of (c .before .before), right (c .before .before) .records)
 
--- src/decode.rt:156:9
 refused-requires-3 : tie.Need-refused-requires-3
 refused-requires-3 c κs = search needs
 
--- src/decode.rt:156:9
 returns-3 : tie.Need-returns-3
 returns-3 c =
     let w = check-size _ (c .before .before .before .before .before .before .before .if1 .left) (in-range (c .before .before .before .before)) (λ e. c .before .if3 .taken (e ∙ sym (rw (parties-of (c .before .before .before .before), records-of (c .before .before .before .before))))) in
-    (c .refused3 .ensures ∙ sym w, λ a. refused-not w a)
+    record { reply = c .refused3 .ensures ∙ sym w; house = λ a. refused-not w a }
 
--- src/decode.rt:158:9
 read-chains-requires : tie.Need-read-chains-requires
 read-chains-requires c κs =
     let e = c .before .before .before in
@@ -109,41 +89,39 @@ read-chains-requires c κs =
       parties = omega (arith, parties-of e, right e .parties .1);
       labels = omega (arith, labels-of e, right e .labels .1);
       records = omega (arith, records-of e, right e .records);
-      size = sized c }
+      size = sized c;
+    }
 
--- src/decode.rt:161:24
 enum-known-reply : tie.Need-enum-known-reply
 enum-known-reply c = search needs
 
--- src/decode.rt:161:30
 refused-requires-4 : tie.Need-refused-requires-4
 refused-requires-4 c κs = search needs
 
--- src/decode.rt:163:17
 enum-told : tie.Need-enum-told
 enum-told c = search needs
 
--- src/decode.rt:164:17
 permit-masks-requires : tie.Need-permit-masks-requires
 permit-masks-requires c κs = search needs
 
--- src/decode.rt:144:1
 returns-4 : tie.Need-returns-4
 returns-4 c =
     let w = checked (c .before .before .before .before .before) ∙ sym (c .before .before .before .before .read-chains .ensures .reply) ∙ c .before .before .reply .given .1 in
-    (c .refused4 .ensures ∙ sym w, λ a. refused-not w a)
+    record { reply = c .refused4 .ensures ∙ sym w; house = λ a. refused-not w a }
 
--- src/decode.rt:144:1
 returns-5 : tie.Need-returns-5
 unfolding isPermitted
 returns-5 c =
     let r = c .before .before .before .before .read-chains .ensures in
     let w = checked (c .before .before .before .before .before) ∙ sym (r .reply) ∙ c .before .before .enum-told .given .1 in
-    ( sym w
-    , λ a. record {
+    record {
+      reply = sym w;
+      house = λ a. record {
         header = c .before .before .before .before .before .before .before .before .before .before .read-header .ensures;
         kinds = r .kinds (sym (checked (c .before .before .before .before .before)) ∙ a);
-        permits = λ u v. c .permit-masks .ensures u v ∙ r .kinds (sym (checked (c .before .before .before .before .before)) ∙ a) u v permitKind (permit-legal (labelsOf (c .before .before .before .before .before .before .before .before .before .before .before .before .before .args .file .now))) } )
+        permits = λ u v. c .permit-masks .ensures u v ∙ r .kinds (sym (checked (c .before .before .before .before .before)) ∙ a) u v permitKind (permit-legal (labelsOf (c .before .before .before .before .before .before .before .before .before .before .before .before .before .args .file .now)));
+      };
+    }
 
 pub read-spec : {M : Type 1} → statement M
 read-spec =

@@ -12,12 +12,6 @@ use Rattle.house_file.specs.declared.header.Header.{Header}
 use Rattle.house_file.proofs.DecodeLaws.{Upto, upto-start, upto-refused, upto-next, upto-end, upto-kinds, stopped-of, passed-of, refused-not}
 use Rattle.house_file.proofs.decode.read_chains.Statement.{statement}
 use Rattle.house_file.proofs.decode.read_chains.Tie as tie
-use Rattle.house_file.proofs.decode.read_chains.Reads as reads
-use Rattle.house_file.proofs.decode.read_chains.Lts as lts
-use Rattle.house_file.proofs.chain.read_chain.Reads as read-chain-reads
-use Rattle.house_file.proofs.decode.all_reached.Reads as all-reached-reads
-use Rattle.masks.proofs.empty_table.Reads as empty-table-reads
-use Rattle.masks.proofs.put_row.Reads as put-row-reads
 
 abbrev Inv-loop : tie.InvT-loop
 Inv-loop file h marks₀ kinds₀ u₀ marks kinds u = (u ≤ h .parties) × ((length marks ≡ 8928) × Upto file u marks kinds)
@@ -32,23 +26,18 @@ inside c = rw (ap (λ (h : Header). h .parties) (c .before .before .before .befo
 outside : (c : tie.Else1 Inv-loop μ-loop) → partiesOf (c .before .before .before .before .before .args .file .now) ≤ c .before .before .loop .u
 outside c = rw (ap (λ (h : Header). h .parties) (c .before .before .before .before .before .pre .numbers)) at (c .if1 .left)
 
--- src/decode.rt:59:9
 empty-table-requires : tie.Need-empty-table-requires Inv-loop μ-loop
 empty-table-requires c κs = search needs
 
--- src/decode.rt:61:5
 loop-holds : tie.Need-loop-holds Inv-loop μ-loop
 loop-holds c = (search needs, (length-replicate {A = ℕ} 8928 0, upto-start _ 8928 _ (c .empty-table .ensures)))
 
--- src/decode.rt:62:13
 read-chain-requires : tie.Need-read-chain-requires Inv-loop μ-loop
 read-chain-requires c κs = (c .before .before .before .before .before .before .pre, (c .before .if1 .taken, c .before .before .before .loop .inv .1 .0))
 
--- src/decode.rt:65:28
 enum-known-reply : tie.Need-enum-known-reply Inv-loop μ-loop
 enum-known-reply c = search needs
 
--- src/decode.rt:66:17
 returns : tie.Need-returns Inv-loop μ-loop
 returns c =
     let i = c .before .before .before .before .before .before .before .loop .inv .1 .1 in
@@ -56,23 +45,18 @@ returns c =
     let w = upto-refused _ _ _ _ i (inside (c .before .before .before .before .before)) _ (stopped-of (chainWalk _ _ (i .before)) _ (sym (r .reply) ∙ c .before .reply .given .1)) in
     record { reply = sym w; kinds = λ e. refused-not w e }
 
--- src/decode.rt:72:21
 enum-told : tie.Need-enum-told Inv-loop μ-loop
 enum-told c = search needs
 
--- src/decode.rt:73:17
 put-row-requires : tie.Need-put-row-requires Inv-loop μ-loop
 put-row-requires c κs = search needs
 
--- src/decode.rt:74:17
 add-u : tie.Need-add-u Inv-loop μ-loop
 add-u c = search needs
 
--- src/decode.rt:61:5
 loop-less : tie.Need-loop-less Inv-loop μ-loop
 loop-less c = search needs
 
--- src/decode.rt:61:5
 loop-again : tie.Need-loop-again Inv-loop μ-loop
 loop-again c =
     let i = c .before .before .before .before .before .before .before .before .loop .inv .1 .1 in
@@ -81,11 +65,9 @@ loop-again c =
     let k = r .kept (w .0) (w .1) in
     (search needs, (c .before .before .before .before .read-chain .ensures .0, upto-next _ _ _ _ i (inside (c .before .before .before .before .before .before)) (w .0) _ (c .before .before .before .before .read-chain .result .row) _ (w .1) (k .0) (k .1) (c .put-row .ensures .0) (c .put-row .ensures .1)))
 
--- src/decode.rt:78:8
 all-reached-requires : tie.Need-all-reached-requires Inv-loop μ-loop
 all-reached-requires c κs = search needs
 
--- src/decode.rt:54:1
 returns-2 : tie.Need-returns-2 Inv-loop μ-loop
 returns-2 c =
     let i = c .before .before .before .before .before .loop .inv .1 .1 in
@@ -95,7 +77,6 @@ returns-2 c =
     let t : everyReached (recordsOf (c .before .before .before .before .before .before .before .before .args .file .now)) (i .before) ≡ true = rw n at (sym a ∙ c .if2 .taken) in
     record { reply = sym (upto-end _ _ _ _ i l ∙ rw t); kinds = λ e. upto-kinds _ _ _ _ i l }
 
--- src/decode.rt:54:1
 returns-3 : tie.Need-returns-3 Inv-loop μ-loop
 returns-3 c =
     let i = c .before .before .before .before .before .loop .inv .1 .1 in

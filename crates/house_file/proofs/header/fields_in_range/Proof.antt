@@ -3,35 +3,25 @@ use Rattle.house_file.specs.Check.{fieldsInRange}
 use borrow.Author.Needs.{needs}
 use Rattle.house_file.proofs.header.fields_in_range.Statement.{statement}
 use Rattle.house_file.proofs.header.fields_in_range.Tie as tie
-use Rattle.house_file.proofs.header.fields_in_range.Reads as reads
-use Rattle.house_file.proofs.header.fields_in_range.Lts as lts
-use Rattle.house_file.proofs.header.in_range.Reads as in-range-reads
 
--- src/header.rt:63:19
 shared-slice-read-edition : tie.Need-shared-slice-read-edition
 shared-slice-read-edition c = search needs
 
--- src/header.rt:64:9
 in-range-requires : tie.Need-in-range-requires
 in-range-requires c κs = search needs
 
--- src/header.rt:65:9
 in-range-requires-2 : tie.Need-in-range-requires-2
 in-range-requires-2 c κs = search needs
 
--- src/header.rt:66:9
 in-range-requires-3 : tie.Need-in-range-requires-3
 in-range-requires-3 c κs = search needs
 
--- src/header.rt:67:9
 in-range-requires-4 : tie.Need-in-range-requires-4
 in-range-requires-4 c κs = search needs
 
--- src/header.rt:68:16
 shared-slice-read-zero : tie.Need-shared-slice-read-zero
 shared-slice-read-zero c = search needs
 
--- src/header.rt:59:1
 returns : tie.Need-returns
 unfolding fieldsInRange
 returns c =

@@ -3,18 +3,13 @@ use borrow.Author.Tests.{lt-ltb, le-ltb, lt-leb, le-leb, eq-eqb, ne-eqb}
 use borrow.Author.Needs.{needs}
 use Rattle.house_file.proofs.record.bit_of.Statement.{statement}
 use Rattle.house_file.proofs.record.bit_of.Tie as tie
-use Rattle.house_file.proofs.record.bit_of.Reads as reads
-use Rattle.house_file.proofs.record.bit_of.Lts as lts
 
--- src/record.rt:43:9
 returns : tie.Need-returns
 returns c = simp (eq-eqb _ _ (c .if1 .taken))
 
--- src/record.rt:45:5
 cast-result : tie.Need-cast-result
 cast-result c = search needs
 
--- src/record.rt:38:1
 returns-2 : tie.Need-returns-2
 returns-2 c = simp (ne-eqb _ _ (c .if1 .left))
 

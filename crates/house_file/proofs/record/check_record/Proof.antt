@@ -13,12 +13,6 @@ use Rattle.house_file.proofs.RecordLaws.{judge-again, judge-target, jud
 use borrow.Author.Needs.{needs}
 use Rattle.house_file.proofs.record.check_record.Statement.{statement}
 use Rattle.house_file.proofs.record.check_record.Tie as tie
-use Rattle.house_file.proofs.record.check_record.Reads as reads
-use Rattle.house_file.proofs.record.check_record.Lts as lts
-use Rattle.house_file.proofs.record.bit_of.Reads as bit-of-reads
-use Rattle.house_file.proofs.record.legal_kind.Reads as legal-kind-reads
-use Rattle.house_file.proofs.record.legal_target.Reads as legal-target-reads
-use Rattle.masks.proofs.has.Reads as has-reads
 
 -- what the passed tests showed
 fresh : (c : tie.Else1) → not (eqb (c .before .args .mark) 0) ≡ false
@@ -33,49 +27,38 @@ below c = target-below _ _ _ (target c)
 kind : (c : tie.Else3) → legalKind (c .before .before .before .before .before .args .h .labels) (c .before .before .before .before .before .args .x .kind) ≡ true
 kind c = sym (c .before .legal-kind .ensures) ∙ not-false (c .before .legal-kind .result) (c .if3 .left)
 
--- src/record.rt:73:9
 returns : tie.Need-returns
 returns c = sym (judge-again _ _ _ _ _ _ (ap not (ne-eqb _ 0 (c .if1 .taken))))
 
--- src/record.rt:76:9
 legal-target-requires : tie.Need-legal-target-requires
 legal-target-requires c κs = search needs
 
--- src/record.rt:77:9
 returns-2 : tie.Need-returns-2
 returns-2 c = sym (judge-target _ _ _ _ _ _ (fresh (c .before .before)) (sym (c .before .legal-target .ensures) ∙ not-true (c .before .legal-target .result) (c .if2 .taken)))
 
--- src/record.rt:80:9
 legal-kind-requires : tie.Need-legal-kind-requires
 legal-kind-requires c κs = search needs
 
--- src/record.rt:81:9
 returns-3 : tie.Need-returns-3
 returns-3 c = sym (judge-kind _ _ _ _ _ _ (fresh (c .before .before .before .before)) (target (c .before .before)) (sym (c .before .legal-kind .ensures) ∙ not-true (c .before .legal-kind .result) (c .if3 .taken)))
 
--- src/record.rt:83:19
 mul-has : tie.Need-mul-has
 mul-has c = omega (arith, below (c .before .before))
 
--- src/record.rt:83:19
 element-copy-out-has : tie.Need-element-copy-out-has
 element-copy-out-has c = omega (arith, below (c .before .before))
 
--- src/record.rt:83:38
 bit-of-requires : tie.Need-bit-of-requires
 bit-of-requires c κs = kind-small _ (c .before .before .before .before .before .before .pre .1) _ (kind (c .before))
 
--- src/record.rt:83:8
 has-requires : tie.Need-has-requires
 has-requires c κs = rw (c .bit-of .ensures) (bit-small _ (c .before .before .before .before .before .before .before .pre .1) _ (kind (c .before .before)))
 
--- src/record.rt:84:9
 returns-4 : tie.Need-returns-4
 returns-4 c =
     let b = c .before .before .before .before in
     sym (judge-repeat _ _ _ _ _ _ (fresh (b .before .before .before .before)) (target (b .before .before)) (kind b) (sym (rw (c .before .before .bit-of .ensures) at (c .before .has .ensures)) ∙ c .if4 .taken))
 
--- src/record.rt:68:1
 returns-5 : tie.Need-returns-5
 returns-5 c =
     let b = c .before .before .before .before in

@@ -2,14 +2,10 @@
 use borrow.Author.Tests.{lt-ltb, le-ltb, lt-leb, le-leb, eq-eqb, ne-eqb}
 use Rattle.house_file.proofs.record.legal_kind.Statement.{statement}
 use Rattle.house_file.proofs.record.legal_kind.Tie as tie
-use Rattle.house_file.proofs.record.legal_kind.Reads as reads
-use Rattle.house_file.proofs.record.legal_kind.Lts as lts
 
--- src/record.rt:61:9
 returns : tie.Need-returns
 returns c = simp (lt-ltb _ _ (c .if1 .taken))
 
--- src/record.rt:57:1
 returns-2 : tie.Need-returns-2
 returns-2 c = simp (le-ltb _ _ (c .if1 .left))
 
