@@ -8,11 +8,12 @@ use Prim.Native.Nat.{ℕ, zero, suc, _+_, _≤_, _<_}
 use native.Mathlib.Decide.{ℕ-discrete}
 use native.Mathlib.Omega.{arith}
 use Rattle.lists.specs.Lists.{anyOf, member}
+use Rattle.lists.specs.Order.{Distinct}
 use Rattle.lists.proofs.Cases.{both}
 use Rattle.lists.proofs.ListLaws.{member-in, member-not, member-out}
 use Rattle.house_file.specs.Layout.{partiesOf, labelsOf, headOf, recordsOf, recordOf}
 use Rattle.house_file.specs.Check.{legalTarget, legalKind, Walk, stopped, passed, andThen, walkChain, walkChains}
-use Rattle.house_file.specs.Meaning.{chainFrom, chainOf, Linked, Once}
+use Rattle.house_file.specs.Meaning.{chainFrom, chainOf, Linked}
 use Rattle.house_file.specs.Reading.{chainWalk}
 use Rattle.house_file.proofs.ChainLaws.{unlike}
 use Rattle.house_file.proofs.WalkLaws.{Right, Passes, walk-passed, passed-walk, append-nil}
@@ -22,7 +23,7 @@ pub record RightChain (f : List ℕ) (u : ℕ) : Type 0 where
   pub linked : Linked f (headOf f u) (chainOf f u)
   pub target : (s : ℕ) → List·Memᴰ s (chainOf f u) → legalTarget (partiesOf f) u (recordOf f s .target) ≡ true
   pub kind : (s : ℕ) → List·Memᴰ s (chainOf f u) → legalKind (labelsOf f) (recordOf f s .kind) ≡ true
-  pub once : Once (chainOf f u)
+  pub once : Distinct (chainOf f u)
   pub different : (s t : ℕ) → List·Memᴰ s (chainOf f u) → List·Memᴰ t (chainOf f u) → recordOf f s .target ≡ recordOf f t .target → recordOf f s .kind ≡ recordOf f t .kind → s ≡ t
 
 -- party u's walk, after the records `before`

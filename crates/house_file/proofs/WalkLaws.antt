@@ -7,11 +7,12 @@ use native.Mathlib.Omega.{arith}
 use lib.Dec.{eqb, ltb}
 use borrow.Author.Tests.{eq-eqb, ne-eqb, le-ltb, eqb-true, eqb-false, ltb-false, ltb-true, lt-ltb}
 use Rattle.lists.specs.Lists.{anyOf, member}
+use Rattle.lists.specs.Order.{Distinct}
 use Rattle.lists.proofs.Cases.{by-test, by-mem, both, clash}
 use Rattle.lists.proofs.ListLaws.{any-in, member-in, member-not, member-out}
 use Rattle.house_file.specs.Layout.{partiesOf, labelsOf, recordsOf, recordOf}
 use Rattle.house_file.specs.Check.{legalTarget, legalKind, recordCheck, says, Walk, stopped, passed, onward, pick, walkChain}
-use Rattle.house_file.specs.Meaning.{chainFrom, Linked, Once}
+use Rattle.house_file.specs.Meaning.{chainFrom, Linked}
 use Rattle.house_file.specs.declared.reply.Check.{Check}
 use Rattle.house_file.specs.declared.reply.Check.the-variants.{Accepted, Refused}
 use Rattle.house_file.proofs.RecordLaws.{judge-accepts, judge-passed, Passed}
@@ -69,7 +70,7 @@ pub record Right (f : List ℕ) (u : ℕ) (before earlier : List ℕ) (r : ℕ) 
   pub target : (s : ℕ) → List·Memᴰ s c → legalTarget (partiesOf f) u (recordOf f s .target) ≡ true
   pub kind : (s : ℕ) → List·Memᴰ s c → legalKind (labelsOf f) (recordOf f s .kind) ≡ true
   pub fresh : (s : ℕ) → List·Memᴰ s c → member s (before ++ earlier) ≡ false
-  pub once : Once c
+  pub once : Distinct c
   pub new : (s : ℕ) → List·Memᴰ s c → anyOf (says f (recordOf f s .target) (recordOf f s .kind)) earlier ≡ false
   pub different : (s t : ℕ) → List·Memᴰ s c → List·Memᴰ t c → recordOf f s .target ≡ recordOf f t .target → recordOf f s .kind ≡ recordOf f t .kind → s ≡ t
 

@@ -7,6 +7,7 @@ use mathlib.Core.List.{List, [], _∷_, List·Memᴰ}
 use lib.ListN.{length}
 use lib.Dec.{eqb, ltb}
 use Rattle.lists.specs.Lists.{anyOf}
+use Rattle.lists.specs.Order.{Distinct}
 use Rattle.house_file.specs.Layout.{byteAt, partiesOf, labelsOf, languageOf, longestOf, recordsOf, sizeOf, headOf, recordOf, permitKind}
 use Rattle.house_file.specs.Check.{says, pick}
 
@@ -36,11 +37,6 @@ abbrev pub Linked : List ℕ → ℕ → List ℕ → Type 0
 Linked f r [] = r ≡ 0
 Linked f r (s ∷ c) = (r ≡ s) × ((1 ≤ r) × ((r ≤ recordsOf f) × Linked f (recordOf f r .next) c))
 
--- no element stands twice
-abbrev pub Once : List ℕ → Type 0
-Once [] = Unit {0}
-Once (x ∷ xs) = (List·Memᴰ x xs → ⊥) × Once xs
-
 pub record FieldsRight (f : List ℕ) : Type 0 where
   pub edition : byteAt f 0 ≡ 1
   pub parties : (1 ≤ partiesOf f) × (partiesOf f ≤ 32)
@@ -58,7 +54,7 @@ pub record WellFormed (f : List ℕ) : Type 0 where
   pub linked : (u : ℕ) → u < partiesOf f → Linked f (headOf f u) (chainOf f u)
   -- every record stands in exactly one chain, once
   pub reached : (r : ℕ) → 1 ≤ r → r ≤ recordsOf f → (u : ℕ) × ((u < partiesOf f) × List·Memᴰ r (chainOf f u))
-  pub once : (u : ℕ) → u < partiesOf f → Once (chainOf f u)
+  pub once : (u : ℕ) → u < partiesOf f → Distinct (chainOf f u)
   pub apart : (u v r : ℕ) → u < v → v < partiesOf f → List·Memᴰ r (chainOf f u) → List·Memᴰ r (chainOf f v) → ⊥
   -- targets and kinds
   pub target : (u r : ℕ) → u < partiesOf f → List·Memᴰ r (chainOf f u) → (recordOf f r .target < partiesOf f) × (recordOf f r .target ≡ u → ⊥)

@@ -1,2 +1,4 @@
 pub mod Cases
 pub mod ListLaws
+pub mod OrderLaws
+pub mod Pointwise

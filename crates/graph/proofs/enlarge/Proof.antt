@@ -1,0 +1,78 @@
+-- The rows of the parties passed are filled, the others empty.
+use mathlib.Core.Path.{_≡_, sym, ap, _∙_}
+use mathlib.Core.Logic.{by-cases}
+use Prim.Native.Nat.{ℕ, _-_, _≤_, _<_}
+use native.Mathlib.Decide.{ℕ-discrete, decLt}
+use borrow.Author.Needs.{needs}
+use native.Mathlib.Omega.{arith}
+use Rattle.masks.specs.Mask.{testBit}
+use Rattle.masks.specs.Table.{maskIn, maskAt}
+use Rattle.masks.proofs.MaskLaws.{zero-bit}
+use Rattle.rebac.specs.Matter.{Matter}
+use Rattle.rebac.specs.Symbols.{holds}
+use Rattle.graph.specs.Archive.{Records}
+use Rattle.graph.proofs.SymbolLaws.{holds-outside, apart-first}
+use Rattle.graph.proofs.enlarge.Statement.{statement}
+use Rattle.graph.proofs.enlarge.Tie as tie
+
+abbrev Inv-loop : tie.InvT-loop
+Inv-loop h k graph₀ u₀ graph u =
+    (u ≤ h .parties)
+    × (((M : Matter) → Records M h k → (x v s : ℕ) → x < u → testBit (maskAt graph x v) s ≡ holds M x v s)
+    × ((x v : ℕ) → u ≤ x → maskAt graph x v ≡ 0))
+
+abbrev μ-loop : tie.MeasureT-loop
+μ-loop h k graph₀ u₀ graph u = h .parties - u
+
+empty-table-requires : tie.Need-empty-table-requires Inv-loop μ-loop
+empty-table-requires c κs = search needs
+
+loop-holds : tie.Need-loop-holds Inv-loop μ-loop
+loop-holds c = (search needs, (λ M r x v s h. absurd (omega arith), λ x v h. c .empty-table .ensures x v))
+
+enlarge-row-requires : tie.Need-enlarge-row-requires Inv-loop μ-loop
+enlarge-row-requires c κs = search needs
+
+put-row-requires : tie.Need-put-row-requires Inv-loop μ-loop
+put-row-requires c κs = search needs
+
+add-u : tie.Need-add-u Inv-loop μ-loop
+add-u c = search needs
+
+loop-less : tie.Need-loop-less Inv-loop μ-loop
+loop-less c = search needs
+
+loop-again : tie.Need-loop-again Inv-loop μ-loop
+loop-again c =
+    let l = c .before .before .before .before .loop in (
+      search needs,
+      (
+        λ M r x v s h. by-cases (ℕ-discrete x (l .u))
+            (λ q. rw (q, c .put-row .ensures .0 v) (c .before .enlarge-row .ensures M r v s))
+            (λ q. rw (c .put-row .ensures .1 x v q) (l .inv .1 .0 M r x v s (omega (arith, q)))),
+        λ x v h. c .put-row .ensures .1 x v (λ q. omega arith) ∙ l .inv .1 .1 x v (omega arith),
+      ),
+    )
+
+returns : tie.Need-returns Inv-loop μ-loop
+returns c =
+    let l = c .before .before .loop in
+    let a = c .before .before .before .before .args in
+    λ M r u v s. by-cases (decLt u (a .h .parties))
+    (λ h. l .inv .1 .0 M r u v s (omega arith))
+    (λ h. rw (l .inv .1 .1 u v (omega arith)) (zero-bit s ∙ sym (holds-outside M u v s (apart-first M u v (omega (arith, r .parties))))))
+
+pub enlarge-spec : {M : Type 1} → statement M
+enlarge-spec =
+    tie.close
+    (tie.spec
+    Inv-loop
+    μ-loop
+    empty-table-requires
+    loop-holds
+    enlarge-row-requires
+    put-row-requires
+    add-u
+    loop-less
+    loop-again
+    returns)

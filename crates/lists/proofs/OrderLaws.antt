@@ -1,0 +1,122 @@
+-- Laws of lists in order, of lists without repetition and of sums, each by induction on the list. Assumes nothing.
+use mathlib.Core.Path.{_≡_, refl, sym, ap, _∙_}
+use mathlib.Core.Logic.{_⊎_, inl, inr, ⊎-elim}
+use mathlib.Core.Bool.{Bool, true, false}
+use mathlib.Core.List.{List, [], _∷_, _++_, map, List·Memᴰ, List·Memᴰ·head, List·Memᴰ·tail, List·Memᴰ·not-nil, List·Memᴰ·append-cases}
+use mathlib.Core.Option.{none, some}
+use Prim.Native.Nat.{ℕ, zero, suc, _+_, _≤_, _<_}
+use native.Mathlib.Omega.{arith}
+use lib.Dec.{leb, ltb}
+use lib.ListN.{length, length-append}
+use borrow.Author.Tests.{lt-ltb, le-leb, leb-true, leb-false}
+use Rattle.lists.specs.Lists.{anyOf, filterBy, firstBy, flatMap, upFrom, range}
+use Rattle.lists.specs.Order.{Ascending, Distinct, headOf, sumOf}
+use Rattle.lists.proofs.Cases.{by-test, by-found, by-mem, clash, both}
+use Rattle.lists.proofs.ListLaws.{filter-out, up-out, find-none, find-none-of, find-some, find-in}
+
+-- k where the test passes, else 0
+abbrev pub onlyIf : Bool → ℕ → ℕ
+onlyIf true k = k
+onlyIf false k = 0
+
+module _ {A : Type 0} where
+  pub ascending-append : (R : A → A → Bool) (l m : List A) → Ascending R l → Ascending R m → ((x y : A) → List·Memᴰ x l → List·Memᴰ y m → R x y ≡ true) → Ascending R (l ++ m)
+  ascending-append R [] m sl sm c = sm
+  ascending-append R (x ∷ l) m sl sm c = (
+    λ y n. ⊎-elim (λ (k : List·Memᴰ y l). sl .0 y k) (λ (k : List·Memᴰ y m). c x y (List·Memᴰ·head refl) k) (List·Memᴰ·append-cases l n),
+    ascending-append R l m (sl .1) sm (λ a b k j. c a b (List·Memᴰ·tail k) j),
+  )
+
+  -- an order that follows from another on the list's elements
+  pub ascending-by : (R Q : A → A → Bool) (l : List A) → ((x y : A) → List·Memᴰ x l → List·Memᴰ y l → R x y ≡ true → Q x y ≡ true) → Ascending R l → Ascending Q l
+  ascending-by R Q [] f h = tt
+  ascending-by R Q (x ∷ l) f h =
+      (λ y n. f x y (List·Memᴰ·head refl) (List·Memᴰ·tail n) (h .0 y n), ascending-by R Q l (λ a b m n. f a b (List·Memᴰ·tail m) (List·Memᴰ·tail n)) (h .1))
+
+  pub ascending-filter : (R : A → A → Bool) (p : A → Bool) (l : List A) → Ascending R l → Ascending R (filterBy p l)
+  unfolding filterBy
+  ascending-filter R p [] h = tt
+  ascending-filter R p (x ∷ l) h =
+      by-test (p x)
+      (λ q. rw (q, filterBy) (λ y n. h .0 y (filter-out p l n .0), ascending-filter R p l (h .1)))
+      (λ q. rw (q, filterBy) (ascending-filter R p l (h .1)))
+
+  -- in an order with no element before itself, a list in order has no repetition
+  pub ascending-distinct : (R : A → A → Bool) → ((x : A) → R x x ≡ false) → (l : List A) → Ascending R l → Distinct l
+  ascending-distinct R i [] h = tt
+  ascending-distinct R i (x ∷ l) h = (λ m. both (h .0 x m) (i x), ascending-distinct R i l (h .1))
+
+  -- in a list in order, the first that passes is the least that passes
+  pub first-least : (R : A → A → Bool) (p : A → Bool) (l : List A) → Ascending R l → {c : A} → firstBy p l ≡ some c → {x : A} → List·Memᴰ x l → p x ≡ true → (c ≡ x) ⊎ (R c x ≡ true)
+  unfolding firstBy
+  first-least R p [] s e m h = absurd (List·Memᴰ·not-nil m)
+  first-least R p (y ∷ ys) s {c} e {x} m h =
+      by-test (p y)
+      (λ q. let z : y ≡ c = cc (rw (q, firstBy) at e) in by-mem m (λ r. inl (cc)) (λ n. inr (rw (← z) (s .0 x n))))
+      (λ q. by-mem m (λ r. both h (ap p r ∙ q)) (λ n. first-least R p ys (s .1) (rw (q, firstBy) at e) n h))
+
+  -- two lists in one order with the same members that pass have the same first that passes
+  pub first-agree : (R : A → A → Bool) → ((x : A) → R x x ≡ false) → ((x y z : A) → R x y ≡ true → R y z ≡ true → R x z ≡ true) → (p : A → Bool) (l m : List A) → Ascending R l → Ascending R m → ((x : A) → p x ≡ true → List·Memᴰ x l → List·Memᴰ x m) → ((x : A) → p x ≡ true → List·Memᴰ x m → List·Memᴰ x l) → firstBy p l ≡ firstBy p m
+  first-agree R i t p l m sl sm f g =
+      by-found (firstBy p l)
+      (λ e. e ∙ sym (find-none-of p m (λ x n. by-test (p x) (λ h. both h (find-none p l e (g x h n))) (λ h. h))))
+      (λ x e. by-found (firstBy p m)
+      (λ k. let h = find-some p l e .here in both h (find-none p m k (f x h (find-in p l e))))
+      (λ y k.
+      let h = find-some p l e .here in
+      let j = find-some p m k .here in
+      let z : x ≡ y = ⊎-elim (λ (q : x ≡ y). q) (λ (q : R x y ≡ true). ⊎-elim (λ (r : y ≡ x). sym r) (λ (r : R y x ≡ true). both (t x y x q r) (i x)) (first-least R p m sm k (f x h (find-in p l e)) h)) (first-least R p l sl e (g y j (find-in p m k)) j) in
+      e ∙ ap some z ∙ sym k))
+
+  pub head-least : (R : A → A → Bool) (l : List A) → Ascending R l → {c : A} → headOf l ≡ some c → {x : A} → List·Memᴰ x l → (c ≡ x) ⊎ (R c x ≡ true)
+  head-least R [] s e m = absurd (List·Memᴰ·not-nil m)
+  head-least R (y ∷ ys) s {c} e {x} m = let z : y ≡ c = cc in by-mem m (λ r. inl (cc)) (λ n. inr (rw (← z) (s .0 x n)))
+
+  pub head-in : (l : List A) {x : A} → headOf l ≡ some x → List·Memᴰ x l
+  head-in [] e = clash (cc e)
+  head-in (y ∷ ys) {x} e = let z : x ≡ y = cc in List·Memᴰ·head z
+
+  pub head-none : (l : List A) → headOf l ≡ none → {x : A} → List·Memᴰ x l → ⊥
+  head-none [] e m = List·Memᴰ·not-nil m
+  head-none (y ∷ ys) e m = clash (cc e)
+
+  -- sums
+  pub sum-mono : (f g : A → ℕ) (l : List A) → ((x : A) → List·Memᴰ x l → f x ≤ g x) → sumOf f l ≤ sumOf g l
+  unfolding sumOf
+  sum-mono f g [] h = omega arith
+  sum-mono f g (x ∷ l) h =
+      let a : f x ≤ g x = h x (List·Memᴰ·head refl) in
+      let b : sumOf f l ≤ sumOf g l = sum-mono f g l (λ y m. h y (List·Memᴰ·tail m)) in
+      omega arith
+
+  pub sum-any : (f : A → ℕ) (p : A → Bool) (l : List A) → ((x : A) → leb 1 (f x) ≡ p x) → leb 1 (sumOf f l) ≡ anyOf p l
+  unfolding sumOf anyOf
+  sum-any f p [] e = refl
+  sum-any f p (x ∷ xs) e =
+      let ih : leb 1 (sumOf f xs) ≡ anyOf p xs = sum-any f p xs e in
+      by-test (leb 1 (f x))
+      (λ q. let a : 1 ≤ f x = leb-true 1 (f x) q in rw (← e x, q) (le-leb 1 (f x + sumOf f xs) (omega arith)))
+      (λ q. let a : f x < 1 = leb-false 1 (f x) q in let z : f x + sumOf f xs ≡ sumOf f xs = omega arith in rw (← e x, q, z) ih)
+
+  pub sum-filter : (f : A → ℕ) (p : A → Bool) (l : List A) → sumOf f (filterBy p l) ≡ sumOf (λ x. onlyIf (p x) (f x)) l
+  unfolding sumOf filterBy
+  sum-filter f p [] = refl
+  sum-filter f p (x ∷ l) = by-test (p x) (λ q. rw (q, filterBy, sum-filter f p l)) (λ q. rw (q, filterBy) (omega (arith, sum-filter f p l)))
+
+pub length-map : {A B : Type 0} (f : A → B) (l : List A) → length (map f l) ≡ length l
+length-map f [] = refl
+length-map f (x ∷ l) = ap suc (length-map f l)
+
+pub length-flat : {A B : Type 0} (f : A → List B) (l : List A) → length (flatMap f l) ≡ sumOf (λ x. length (f x)) l
+unfolding flatMap sumOf
+length-flat f [] = refl
+length-flat f (x ∷ l) = length-append (f x) (flatMap f l) ∙ rw (length-flat f l)
+
+pub up-ascending : (a k : ℕ) → Ascending ltb (upFrom a k)
+unfolding upFrom
+up-ascending a zero = tt
+up-ascending a (suc k) = (λ y n. lt-ltb a y (up-out (suc a) k n .0), up-ascending (suc a) k)
+
+pub range-ascending : (n : ℕ) → Ascending ltb (range n)
+unfolding range
+range-ascending n = up-ascending 0 n

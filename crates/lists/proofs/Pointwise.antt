@@ -1,0 +1,123 @@
+-- List functions whose tests or values agree on the members agree; ranges and filters of a longer range. By induction on the list.
+use mathlib.Core.Path.{_≡_, refl, sym, ap, _∙_}
+use mathlib.Core.Bool.{Bool, true, false, not, _&&_}
+use mathlib.Core.List.{List, [], _∷_, _++_, append-nil, List·Memᴰ, List·Memᴰ·head, List·Memᴰ·tail, List·Memᴰ·not-nil}
+use mathlib.Core.Option.{some}
+use Prim.Native.Nat.{ℕ, zero, suc, _+_, _-_, _≤_, _<_}
+use native.Mathlib.Omega.{arith}
+use lib.Dec.{eqb}
+use lib.ListN.{length}
+use borrow.Author.Tests.{eqb-true, eqb-false, not-true}
+use Rattle.lists.specs.Lists.{filterBy, firstBy, flatMap, upFrom, range}
+use Rattle.lists.specs.Order.{Distinct}
+use Rattle.lists.proofs.Cases.{by-test, by-mem, clash}
+use Rattle.lists.proofs.ListLaws.{filter-out, up-out}
+
+module _ {A : Type 0} where
+  pub filter-same : (p q : A → Bool) (l : List A) → ((x : A) → List·Memᴰ x l → p x ≡ q x) → filterBy p l ≡ filterBy q l
+  unfolding filterBy
+  filter-same p q [] f = refl
+  filter-same p q (x ∷ l) f =
+      let e = f x (List·Memᴰ·head refl) in
+      let ih = filter-same p q l (λ y m. f y (List·Memᴰ·tail m)) in
+      by-test (q x) (λ t. rw (e ∙ t, t, filterBy, ih)) (λ t. rw (e ∙ t, t, filterBy) ih)
+
+  pub find-same : (p q : A → Bool) (l : List A) → ((x : A) → List·Memᴰ x l → p x ≡ q x) → firstBy p l ≡ firstBy q l
+  unfolding firstBy
+  find-same p q [] f = refl
+  find-same p q (x ∷ l) f =
+      let e = f x (List·Memᴰ·head refl) in
+      by-test (q x) (λ t. rw (e ∙ t, t, firstBy)) (λ t. rw (e ∙ t, t, firstBy) (find-same p q l (λ y m. f y (List·Memᴰ·tail m))))
+
+  -- the first that passes one test passes both where it passes the other
+  pub find-and : (p q : A → Bool) (l : List A) {x : A} → firstBy p l ≡ some x → q x ≡ true → firstBy (λ y. p y && q y) l ≡ some x
+  unfolding firstBy
+  find-and p q [] e h = clash (cc e)
+  find-and p q (y ∷ l) {x} e h =
+      by-test (p y)
+      (λ t. let z : y ≡ x = cc (rw (t, firstBy) at e) in let k : q y ≡ true = ap q z ∙ h in rw (t, k, firstBy) (ap some z))
+      (λ t. rw (t, firstBy) (find-and p q l (rw (t, firstBy) at e) h))
+
+  pub filter-none : (p : A → Bool) (l : List A) → ((x : A) → List·Memᴰ x l → p x ≡ false) → filterBy p l ≡ []
+  unfolding filterBy
+  filter-none p [] f = refl
+  filter-none p (x ∷ l) f = rw (f x (List·Memᴰ·head refl), filterBy) (filter-none p l (λ y m. f y (List·Memᴰ·tail m)))
+
+  pub filter-all : (p : A → Bool) (l : List A) → ((x : A) → List·Memᴰ x l → p x ≡ true) → filterBy p l ≡ l
+  unfolding filterBy
+  filter-all p [] f = refl
+  filter-all p (x ∷ l) f = rw (f x (List·Memᴰ·head refl), filterBy, filter-all p l (λ y m. f y (List·Memᴰ·tail m)))
+
+  pub filter-append : (p : A → Bool) (l m : List A) → filterBy p (l ++ m) ≡ filterBy p l ++ filterBy p m
+  unfolding filterBy
+  filter-append p [] m = refl
+  filter-append p (x ∷ l) m = by-test (p x) (λ q. rw (q, filterBy, filter-append p l m)) (λ q. rw (q, filterBy) (filter-append p l m))
+
+  pub distinct-filter : (p : A → Bool) (l : List A) → Distinct l → Distinct (filterBy p l)
+  unfolding filterBy
+  distinct-filter p [] d = tt
+  distinct-filter p (x ∷ l) d =
+      by-test (p x)
+      (λ q. rw (q, filterBy) (λ m. d .0 (filter-out p l m .0), distinct-filter p l (d .1)))
+      (λ q. rw (q, filterBy) (distinct-filter p l (d .1)))
+
+-- a stricter test picks no more, and fewer where it refuses a member that the other picks
+pub filter-fewer : {A : Type 0} (p q : A → Bool) (l : List A) → ((x : A) → List·Memᴰ x l → p x ≡ true → q x ≡ true) → length (filterBy p l) ≤ length (filterBy q l)
+unfolding filterBy
+filter-fewer p q [] f = omega arith
+filter-fewer p q (x ∷ l) f =
+    let ih : length (filterBy p l) ≤ length (filterBy q l) = filter-fewer p q l (λ y m. f y (List·Memᴰ·tail m)) in
+    by-test (p x)
+    (λ t. rw (t, f x (List·Memᴰ·head refl) t, filterBy) (omega arith))
+    (λ t. by-test (q x) (λ k. rw (t, k, filterBy) (omega arith)) (λ k. rw (t, k, filterBy) ih))
+
+pub filter-strictly : {A : Type 0} (p q : A → Bool) (l : List A) → ((x : A) → List·Memᴰ x l → p x ≡ true → q x ≡ true) → {z : A} → List·Memᴰ z l → p z ≡ false → q z ≡ true → length (filterBy p l) < length (filterBy q l)
+unfolding filterBy
+filter-strictly {A} p q [] f m a b = absurd (List·Memᴰ·not-nil m)
+filter-strictly {A} p q (x ∷ l) f {z} m a b =
+    let rest : (y : A) → List·Memᴰ y l → p y ≡ true → q y ≡ true = λ y n. f y (List·Memᴰ·tail n) in
+    by-mem m
+    (λ e. rw (ap p (sym e) ∙ a, ap q (sym e) ∙ b, filterBy) (omega (arith, filter-fewer p q l rest)))
+    (λ n.
+    let ih : length (filterBy p l) < length (filterBy q l) = filter-strictly p q l rest n a b in
+    by-test (p x)
+    (λ t. rw (t, f x (List·Memᴰ·head refl) t, filterBy) (omega arith))
+    (λ t. by-test (q x) (λ k. rw (t, k, filterBy) (omega arith)) (λ k. rw (t, k, filterBy) ih)))
+
+pub flat-same : {A B : Type 0} (f g : A → List B) (l : List A) → ((x : A) → List·Memᴰ x l → f x ≡ g x) → flatMap f l ≡ flatMap g l
+unfolding flatMap
+flat-same f g [] h = refl
+flat-same f g (x ∷ l) h = rw (h x (List·Memᴰ·head refl), flat-same f g l (λ y m. h y (List·Memᴰ·tail m)))
+
+-- a range is the shorter range and what comes after it
+up-append : (a k j : ℕ) → upFrom a (k + j) ≡ upFrom a k ++ upFrom (a + k) j
+unfolding upFrom
+up-append a zero j = let e : 0 + j ≡ j = omega arith in let z : a + 0 ≡ a = omega arith in rw (e, z)
+up-append a (suc k) j = let e : suc k + j ≡ suc (k + j) = omega arith in let z : a + suc k ≡ suc a + k = omega arith in rw (e, z, up-append (suc a) k j)
+
+-- a test that fails from n on picks the same from a longer range
+pub filter-range : (p : ℕ → Bool) (n m : ℕ) → n ≤ m → ((x : ℕ) → n ≤ x → x < m → p x ≡ false) → filterBy p (range m) ≡ filterBy p (range n)
+unfolding range
+filter-range p n m h f =
+    let e : m ≡ n + (m - n) = omega arith in
+    let z : upFrom 0 m ≡ upFrom 0 n ++ upFrom (0 + n) (m - n) = ap (upFrom 0) e ∙ up-append 0 n (m - n) in
+    rw (z, filter-append, filter-none p (upFrom (0 + n) (m - n)) (λ x k. let r = up-out (0 + n) (m - n) k in f x (omega (arith, r .0)) (omega (arith, r .1)))) (append-nil (filterBy p (upFrom 0 n)))
+
+-- pigeonhole: different numbers below n are at most n
+remove-length : (k : ℕ) (l : List ℕ) → Distinct l → length l ≤ suc (length (filterBy (λ x. not (eqb k x)) l))
+unfolding filterBy
+remove-length k [] d = omega arith
+remove-length k (x ∷ l) d =
+    by-test (eqb k x)
+    (λ e. let q : k ≡ x = eqb-true k x e in
+    let z : filterBy (λ x. not (eqb k x)) l ≡ l = filter-all (λ x. not (eqb k x)) l (λ y m. by-test (eqb k y) (λ r. absurd (d .0 (rw (sym (eqb-true k y r) ∙ q) at m))) (λ r. rw r)) in
+    rw (e, filterBy, z) (omega arith))
+    (λ e. rw (e, filterBy) (omega (arith, remove-length k l (d .1))))
+
+pub distinct-short : (n : ℕ) (l : List ℕ) → Distinct l → ((x : ℕ) → List·Memᴰ x l → x < n) → length l ≤ n
+distinct-short zero [] d f = omega arith
+distinct-short zero (x ∷ l) d f = absurd (omega (arith, f x (List·Memᴰ·head refl)))
+distinct-short (suc n) l d f =
+    let r : length (filterBy (λ x. not (eqb n x)) l) ≤ n = distinct-short n (filterBy (λ x. not (eqb n x)) l) (distinct-filter (λ x. not (eqb n x)) l d)
+    (λ x m. let k = filter-out (λ x. not (eqb n x)) l m in let q : n ≡ x → ⊥ = eqb-false n x (not-true (eqb n x) (k .1)) in omega (arith, q, f x (k .0))) in
+    omega (arith, remove-length n l d)

@@ -1,0 +1,17 @@
+pub mod CasesHold
+pub mod LexOrder
+pub mod Reach
+pub mod Triples
+pub mod MiningLaws
+pub mod VerdictLaws
+pub mod Existence
+pub mod WhileMining
+pub mod WordsLaws
+pub mod SymbolsLaws
+pub mod PairsLaws
+pub mod Conversion
+pub mod NextWordLaws
+pub mod FormLaws
+pub mod SearchLaws
+pub mod MatterLaws
+pub mod MarkedLaws

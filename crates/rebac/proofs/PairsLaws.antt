@@ -1,0 +1,82 @@
+-- The pairs of n parties: each once, in pair order, n (n - 1) of them; by induction on the range.
+use mathlib.Core.Path.{_≡_, refl, ap, _∙_}
+use mathlib.Core.Bool.{not}
+use mathlib.Core.List.{List, [], _∷_, map, List·Memᴰ, List·Memᴰ·head, List·Memᴰ·tail}
+use Prim.Native.Nat.{ℕ, zero, suc, _+_, _*_, _-_, _≤_, _<_}
+use native.Mathlib.Omega.{arith}
+use native.Mathlib.Nat.{suc-mul}
+use lib.Dec.{eqb, ltb}
+use lib.ListN.{length}
+use borrow.Author.Tests.{eqb-true, eqb-false, ne-eqb, not-true, ltb-true}
+use Rattle.lists.specs.Lists.{filterBy, flatMap, upFrom, range}
+use Rattle.lists.specs.Order.{Ascending, sumOf}
+use Rattle.lists.proofs.Cases.{by-test}
+use Rattle.lists.proofs.ListLaws.{filter-in, filter-out, flat-in, flat-out, map-in, map-out, range-in, range-out}
+use Rattle.lists.proofs.OrderLaws.{ascending-append, ascending-filter, range-ascending, length-map, length-flat}
+use Rattle.rebac.specs.Matter.{Pair, pair, IsPair, pairBefore, pairsOf}
+use Rattle.rebac.proofs.LexOrder.{first-lower, first-same}
+
+pub pairs-in : (n a b : ℕ) → a < n → b < n → (a ≡ b → ⊥) → List·Memᴰ (pair a b) (pairsOf n)
+unfolding pairsOf
+pairs-in n a b ha hb d =
+    flat-in (λ a. map (pair a) (filterBy (λ b. not (eqb a b)) (range n))) (range n) (range-in n a ha)
+    (map-in (pair a) (filterBy (λ b. not (eqb a b)) (range n)) (filter-in (λ b. not (eqb a b)) (range n) (range-in n b hb) (rw (ne-eqb a b d))))
+
+pub pairs-out : (n : ℕ) {p : Pair} → List·Memᴰ p (pairsOf n) → IsPair n p
+unfolding pairsOf
+pairs-out n m =
+    let r = flat-out (λ a. map (pair a) (filterBy (λ b. not (eqb a b)) (range n))) (range n) m in
+    let t = map-out (pair (r .0)) (filterBy (λ b. not (eqb (r .0) b)) (range n)) (r .2) in
+    let f = filter-out (λ b. not (eqb (r .0) b)) (range n) (t .1) in
+    rw (t .2) (record { first = range-out n (r .1); second = range-out n (f .0); different = eqb-false (r .0) (t .0) (not-true (eqb (r .0) (t .0)) (f .1)) })
+
+row-ascending : (a : ℕ) (l : List ℕ) → Ascending ltb l → Ascending pairBefore (map (pair a) l)
+row-ascending a [] h = tt
+row-ascending a (b ∷ l) h = (λ y n. let r = map-out (pair a) l n in rw (r .2) (first-same a a (ltb b (r .0)) refl (h .0 (r .0) (r .1))), row-ascending a l (h .1))
+
+rows-ascending : (f : ℕ → List ℕ) → ((a : ℕ) → Ascending ltb (f a)) → (l : List ℕ) → Ascending ltb l → Ascending pairBefore (flatMap (λ a. map (pair a) (f a)) l)
+unfolding flatMap
+rows-ascending f h [] al = tt
+rows-ascending f h (a ∷ l) al =
+    ascending-append pairBefore (map (pair a) (f a)) (flatMap (λ a. map (pair a) (f a)) l) (row-ascending a (f a) (h a)) (rows-ascending f h l (al .1))
+    (λ x y m n.
+    let r = map-out (pair a) (f a) m in
+    let t = flat-out (λ a. map (pair a) (f a)) l n in
+    let z = map-out (pair (t .0)) (f (t .0)) (t .2) in
+    rw (r .2, z .2) (first-lower a (t .0) (ltb (r .0) (z .0)) (ltb-true a (t .0) (al .0 (t .0) (t .1)))))
+
+pub pairs-ascending : (n : ℕ) → Ascending pairBefore (pairsOf n)
+unfolding pairsOf
+pairs-ascending n = rows-ascending (λ a. filterBy (λ b. not (eqb a b)) (range n)) (λ a. ascending-filter ltb (λ b. not (eqb a b)) (range n) (range-ascending n)) (range n) (range-ascending n)
+
+-- a row leaves out one party of the range
+above : (a s k : ℕ) → a < s → length (filterBy (λ b. not (eqb a b)) (upFrom s k)) ≡ k
+unfolding upFrom filterBy
+above a s zero h = refl
+above a s (suc k) h = rw (ne-eqb a s (λ e. omega arith), filterBy) (ap suc (above a (suc s) k (omega arith)))
+
+row-length : (a s k : ℕ) → s ≤ a → a < s + k → suc (length (filterBy (λ b. not (eqb a b)) (upFrom s k))) ≡ k
+unfolding upFrom filterBy
+row-length a s zero l u = absurd (omega arith)
+row-length a s (suc k) l u =
+    by-test (eqb a s)
+    (λ e. let q : a ≡ s = eqb-true a s e in rw (e, filterBy) (ap suc (above a (suc s) k (omega arith))))
+    (λ e. let q : a ≡ s → ⊥ = eqb-false a s e in rw (e, filterBy) (ap suc (row-length a (suc s) k (omega (arith, q)) (omega arith))))
+
+up-length : (a k : ℕ) → length (upFrom a k) ≡ k
+unfolding upFrom
+up-length a zero = refl
+up-length a (suc k) = ap suc (up-length (suc a) k)
+
+sum-const : {A : Type 0} (f : A → ℕ) (c : ℕ) (l : List A) → ((x : A) → List·Memᴰ x l → f x ≡ c) → sumOf f l ≡ length l * c
+unfolding sumOf
+sum-const f c [] h = omega arith
+sum-const f c (x ∷ l) h = rw (h x (List·Memᴰ·head refl), sum-const f c l (λ y m. h y (List·Memᴰ·tail m))) (omega (arith, suc-mul (length l) c))
+
+pub pairs-length : (n : ℕ) → length (pairsOf n) ≡ n * (n - 1)
+unfolding pairsOf range
+pairs-length n =
+    length-flat (λ a. map (pair a) (filterBy (λ b. not (eqb a b)) (range n))) (range n)
+    ∙ sum-const (λ a. length (map (pair a) (filterBy (λ b. not (eqb a b)) (range n)))) (n - 1) (range n)
+    (λ a m. length-map (pair a) (filterBy (λ b. not (eqb a b)) (range n)) ∙ omega (arith, row-length a 0 n (omega arith) (omega (arith, range-out n m))))
+    ∙ ap (λ k. k * (n - 1)) (up-length 0 n)

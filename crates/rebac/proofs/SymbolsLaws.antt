@@ -1,0 +1,137 @@
+-- The symbols that hold: between two different parties of the matter, of its language, and then by Table 1; the alphabet lists the language.
+use mathlib.Core.Path.{_≡_, refl}
+use mathlib.Core.Bool.{true, false, _&&_}
+use mathlib.Core.List.{List, [], _∷_, map, List·Memᴰ, List·Memᴰ·not-nil}
+use Prim.Native.Nat.{ℕ, zero, suc, _+_, _*_, _/_, _%_, _≤_, _<_}
+use native.Mathlib.Omega.{arith}
+use lib.Dec.{eqb, ltb}
+use borrow.Author.Tests.{ltb-true, lt-ltb, eqb-false, ne-eqb, not-true}
+use Rattle.lists.specs.Lists.{allOf, flatMap, upFrom, range}
+use Rattle.lists.specs.Order.{Ascending}
+use Rattle.lists.proofs.Cases.{by-test, by-mem, and-left, and-right}
+use Rattle.lists.proofs.ListLaws.{all-in, flat-in, flat-out, map-in, map-out, member-in, member-out, range-in, range-out}
+use Rattle.lists.proofs.OrderLaws.{ascending-append, range-ascending}
+use Rattle.rebac.specs.Matter.{Matter}
+use Rattle.rebac.specs.Symbols.{Held, kinds, kindHolds, apart, inLanguage, holds, alphabet, capOf}
+
+split-label : (l k : ℕ) → k < 4 → (4 * l + k) / 4 ≡ l
+split-label l k h = omega arith
+
+split-kind : (l k : ℕ) → k < 4 → (4 * l + k) % 4 ≡ k
+split-kind l k h = omega arith
+
+join-symbol : (s : ℕ) → s ≡ 4 * (s / 4) + s % 4
+join-symbol s = omega arith
+
+all-below : (g : ℕ) → allOf (λ k. ltb k 4) (kinds g) ≡ true
+unfolding kinds allOf
+all-below zero = refl
+all-below (suc zero) = refl
+all-below (suc (suc zero)) = refl
+all-below (suc (suc (suc g))) = refl
+
+kinds-below : (g : ℕ) {k : ℕ} → List·Memᴰ k (kinds g) → k < 4
+kinds-below g {k} m = ltb-true k 4 (all-in (λ k. ltb k 4) (kinds g) (all-below g) m)
+
+two-ascending : (x y : ℕ) → x < y → Ascending ltb (x ∷ y ∷ [])
+two-ascending x y h = (λ z n. by-mem n (λ e. lt-ltb x z (omega arith)) (λ o. absurd (List·Memᴰ·not-nil o)), (λ z n. absurd (List·Memᴰ·not-nil n), tt))
+
+kinds-ascending : (g : ℕ) → Ascending ltb (kinds g)
+unfolding kinds upFrom range
+kinds-ascending zero = range-ascending 1
+kinds-ascending (suc zero) = range-ascending 2
+kinds-ascending (suc (suc zero)) = two-ascending 0 2 (omega arith)
+kinds-ascending (suc (suc (suc g))) = range-ascending 4
+
+apart-out : (M : Matter) (u v : ℕ) → apart M u v ≡ true → (u < M .parties) × (v < M .parties) × (u ≡ v → ⊥)
+unfolding apart
+apart-out M u v e =
+    let a : (ltb u (M .parties) && ltb v (M .parties)) ≡ true = and-left _ _ e in (
+      ltb-true u (M .parties) (and-left _ _ a),
+      ltb-true v (M .parties) (and-right (ltb u (M .parties)) _ a),
+      eqb-false u v (not-true (eqb u v) (and-right (ltb u (M .parties) && ltb v (M .parties)) _ e)),
+    )
+
+pub holds-out : (M : Matter) (u v s : ℕ) → holds M u v s ≡ true → Held M u v s
+unfolding holds
+holds-out M u v s e =
+    let a = apart-out M u v (and-left (apart M u v) _ e) in
+    let b : (inLanguage M s && kindHolds M u v (s / 4) (s % 4)) ≡ true = and-right (apart M u v) _ e in
+    record { first = a .0; second = a .1; different = a .2; language = and-left (inLanguage M s) _ b; kind = and-right (inLanguage M s) _ b }
+
+pub holds-in : (M : Matter) (u v s : ℕ) → Held M u v s → holds M u v s ≡ true
+unfolding holds apart
+holds-in M u v s r = rw (lt-ltb u (M .parties) (r .first), lt-ltb v (M .parties) (r .second), ne-eqb u v (r .different), r .language, r .kind)
+
+-- no symbol holds between a party and itself
+pub holds-loop : (M : Matter) (u s : ℕ) → holds M u u s ≡ false
+holds-loop M u s = by-test (holds M u u s) (λ e. absurd (holds-out M u u s e .different refl)) (λ e. e)
+
+-- Table 1 and Definition 4.3: between two different parties a symbol of the language holds as its kind says (Lemma 4.4's content)
+pub holds-table : (M : Matter) (u v label kind : ℕ) → u < M .parties → v < M .parties → (u ≡ v → ⊥) → label < M .labels → List·Memᴰ kind (kinds (M .language)) → holds M u v (4 * label + kind) ≡ kindHolds M u v label kind
+unfolding holds apart inLanguage
+holds-table M u v label kind a b c d m =
+    let k : kind < 4 = kinds-below (M .language) m in
+    rw (split-label label kind k, split-kind label kind k, lt-ltb u (M .parties) a, lt-ltb v (M .parties) b, ne-eqb u v c, lt-ltb label (M .labels) d, member-in kind (kinds (M .language)) m)
+
+-- the alphabet lists the language's symbols
+pub language-listed : (M : Matter) (s : ℕ) → inLanguage M s ≡ true → List·Memᴰ s (alphabet (M .language) (M .labels))
+unfolding inLanguage alphabet
+language-listed M s e =
+    let a : s / 4 < M .labels = ltb-true (s / 4) (M .labels) (and-left (ltb (s / 4) (M .labels)) _ e) in
+    let b : List·Memᴰ (s % 4) (kinds (M .language)) = member-out (s % 4) (kinds (M .language)) (and-right (ltb (s / 4) (M .labels)) _ e) in
+    let m : List·Memᴰ (4 * (s / 4) + s % 4) (alphabet (M .language) (M .labels)) = flat-in (λ l. map (λ k. 4 * l + k) (kinds (M .language))) (range (M .labels)) (range-in (M .labels) (s / 4) a) (map-in (λ k. 4 * (s / 4) + k) (kinds (M .language)) b) in
+    rw (← join-symbol s) at m
+
+pub record InAlphabet (language labels s : ℕ) : Type 0 where
+  pub label : ℕ
+  pub kind : ℕ
+  pub below : label < labels
+  pub inKinds : List·Memᴰ kind (kinds language)
+  pub small : kind < 4
+  pub joined : s ≡ 4 * label + kind
+
+pub alphabet-out : (language labels : ℕ) {s : ℕ} → List·Memᴰ s (alphabet language labels) → InAlphabet language labels s
+unfolding alphabet
+alphabet-out language labels m =
+    let r = flat-out (λ l. map (λ k. 4 * l + k) (kinds language)) (range labels) m in
+    let t = map-out (λ k. 4 * r .0 + k) (kinds language) (r .2) in
+    record { label = r .0; kind = t .0; below = range-out labels (r .1); inKinds = t .1; small = kinds-below language (t .1); joined = t .2 }
+
+pub listed-language : (M : Matter) (s : ℕ) → List·Memᴰ s (alphabet (M .language) (M .labels)) → inLanguage M s ≡ true
+unfolding inLanguage
+listed-language M s m =
+    let r = alphabet-out (M .language) (M .labels) m in
+    rw (r .joined, split-label (r .label) (r .kind) (r .small), split-kind (r .label) (r .kind) (r .small), lt-ltb (r .label) (M .labels) (r .below)) (member-in (r .kind) (kinds (M .language)) (r .inKinds))
+
+pub alphabet-below : (language labels : ℕ) {s : ℕ} → List·Memᴰ s (alphabet language labels) → s < 4 * labels
+alphabet-below language labels m = let r = alphabet-out language labels m in omega (arith, r .below, r .small, r .joined)
+
+-- a symbol that holds is of the alphabet
+pub holds-listed : (M : Matter) (u v s : ℕ) → holds M u v s ≡ true → List·Memᴰ s (alphabet (M .language) (M .labels))
+holds-listed M u v s e = language-listed M s (holds-out M u v s e .language)
+
+map-ascending : (f : ℕ → ℕ) → ((a b : ℕ) → a < b → f a < f b) → (l : List ℕ) → Ascending ltb l → Ascending ltb (map f l)
+map-ascending f h [] a = tt
+map-ascending f h (x ∷ l) a =
+    (λ y n. let r = map-out f l n in rw (r .2) (lt-ltb (f x) (f (r .0)) (h x (r .0) (ltb-true x (r .0) (a .0 (r .0) (r .1))))), map-ascending f h l (a .1))
+
+flat-ascending : (ks : List ℕ) → Ascending ltb ks → ((k : ℕ) → List·Memᴰ k ks → k < 4) → (ls : List ℕ) → Ascending ltb ls → Ascending ltb (flatMap (λ l. map (λ k. 4 * l + k) ks) ls)
+unfolding flatMap
+flat-ascending ks ak b [] al = tt
+flat-ascending ks ak b (l ∷ ls) al =
+    ascending-append ltb (map (λ k. 4 * l + k) ks) (flatMap (λ l. map (λ k. 4 * l + k) ks) ls) (map-ascending (λ k. 4 * l + k) (λ x y h. omega arith) ks ak) (flat-ascending ks ak b ls (al .1))
+    (λ x y m n.
+    let r = map-out (λ k. 4 * l + k) ks m in
+    let t = flat-out (λ l. map (λ k. 4 * l + k) ks) ls n in
+    let z = map-out (λ k. 4 * t .0 + k) ks (t .2) in
+    let h : l < t .0 = ltb-true l (t .0) (al .0 (t .0) (t .1)) in
+    lt-ltb x y (omega (arith, r .2, z .2, b (r .0) (r .1))))
+
+pub alphabet-ascending : (language labels : ℕ) → Ascending ltb (alphabet language labels)
+unfolding alphabet
+alphabet-ascending language labels = flat-ascending (kinds language) (kinds-ascending language) (λ k m. kinds-below language m) (range labels) (range-ascending labels)
+
+-- an item may ask for one path in every language
+pub cap-positive : (language : ℕ) → 1 ≤ capOf language
+cap-positive language = omega arith

@@ -1,0 +1,77 @@
+-- "A rule list exists", as a statement over every list, and the answers for a matter.
+use mathlib.Core.Path.{_≡_}
+use mathlib.Core.Bool.{Bool}
+use mathlib.Core.List.{List, map, List·Memᴰ}
+use Prim.Native.Nat.{ℕ, _≤_}
+use lib.ListN.{length}
+use Rattle.lists.specs.Lists.{allOf, anyOf}
+use Rattle.rebac.specs.Matter.{Matter, Pair, pairsOf, permitted}
+use Rattle.rebac.specs.Words.{Word, wordsUpTo, IsWord}
+use Rattle.rebac.specs.Paths.{Graph, has, pathCount}
+use Rattle.rebac.specs.Symbols.{alphabet, enlarged, capOf}
+use Rattle.rebac.specs.Rules.{Problem, Item, Term, RuleList, permits}
+use Rattle.rebac.specs.Verdict.{Verdict, verdict}
+use Rattle.rebac.specs.Mining.{mine}
+
+-- 01: "A term is one or more words"; each item asks for one path or more of a word in use
+pub record IsTerm {P W : Type 0} (S : Problem P W) (t : Term W) : Type 0 where
+  pub full : 1 ≤ length t
+  pub counts : (i : Item W) → List·Memᴰ i t → 1 ≤ i .count
+  pub listed : (i : Item W) → List·Memᴰ i t → List·Memᴰ (i .word) (S .words)
+
+-- Definition 3.8: the list is a suitable RuleSet, it permits exactly the permitted pairs
+pub record Suitable {P W : Type 0} (S : Problem P W) (r : RuleList W) : Type 0 where
+  pub terms : (t : Term W) → List·Memᴰ t r → IsTerm S t
+  pub exact : (p : P) → List·Memᴰ p (S .pairs) → permits S r p ≡ S .permitted p
+
+-- the words of a matter, in word order
+unfoldable pub matterWords : Matter → List Word
+matterWords M = wordsUpTo (alphabet (M .language) (M .labels)) (M .longest)
+
+-- a conversion over an enlarged graph: the score of a pair at a word is the number of its paths, cut at the cap
+unfoldable pub problemOver : Graph ℕ → ℕ → List Word → (Pair → Bool) → Problem Pair Word
+problemOver g cap words permit = record { pairs = pairsOf (g .parties); permitted = permit; words = words; score = pathCount g cap }
+
+unfoldable pub problemOf : Matter → Problem Pair Word
+problemOf M = problemOver (enlarged M) (capOf (M .language)) (matterWords M) (permitted M)
+
+abbrev pub score : Matter → Pair → Word → ℕ
+score M p w = pathCount (enlarged M) (capOf (M .language)) p w
+
+-- 01's calls "Verdict" and "Mining", apart from bytes
+unfoldable pub verdictOf : Matter → Verdict Pair
+verdictOf M = verdict (problemOf M)
+
+unfoldable pub minedList : Matter → RuleList Word
+minedList M = mine (problemOf M)
+
+-- The same in 01's plain words, where words are not counted: a rule list is terms, a term is words.
+-- A word of the matter: 1 to D symbols of its language
+abbrev pub MatterWord : Matter → Word → Type 0
+MatterWord M w = IsWord (alphabet (M .language) (M .labels)) (M .longest) w
+
+unfoldable pub hasAll : Matter → Pair → List Word → Bool
+hasAll M p t = allOf (has (enlarged M) p) t
+
+unfoldable pub permitsPair : Matter → List (List Word) → Pair → Bool
+permitsPair M r p = anyOf (hasAll M p) r
+
+-- 01, demand 3: "every such list with words of at most D symbols, whatever its numbers of terms and words"
+pub record Converts (M : Matter) (r : List (List Word)) : Type 0 where
+  pub full : (t : List Word) → List·Memᴰ t r → 1 ≤ length t
+  pub fits : (t : List Word) → List·Memᴰ t r → (w : Word) → List·Memᴰ w t → MatterWord M w
+  pub exact : (p : Pair) → List·Memᴰ p (pairsOf (M .parties)) → permitsPair M r p ≡ permitted M p
+
+-- the words of a list, without the counts
+abbrev pub plainTerm : Term Word → List Word
+plainTerm t = map (λ i. i .word) t
+
+abbrev pub plainList : RuleList Word → List (List Word)
+plainList r = map plainTerm r
+
+-- and words as items that ask for one path each
+abbrev pub one : Word → Item Word
+one w = record { word = w; count = 1 }
+
+abbrev pub ones : List (List Word) → RuleList Word
+ones r = map (λ t. map one t) r
