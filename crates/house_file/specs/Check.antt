@@ -7,7 +7,7 @@ use lib.Dec.{eqb, ltb, leb}
 use Rattle.lists.specs.Lists.{allOf, anyOf, member, upFrom}
 use Rattle.house_file.specs.Layout.{byteAt, partiesOf, labelsOf, languageOf, longestOf, recordsOf, sizeOf, headOf, recordOf, permitKind}
 use Rattle.house_file.specs.declared.reply.Refusal.{Refusal}
-use Rattle.house_file.specs.declared.reply.Refusal.the-variants.{Length, Field, Link, Again, Unreached, Target, Kind, Repeat}
+use Rattle.house_file.specs.declared.reply.Refusal.the-variants.{Length, Field, Link, Again, Unreached, Target, Kind, Repeat, RuleList, PartyPair, GivenWord, Scratch, Inconvertible, Output}
 use Rattle.house_file.specs.declared.reply.Check.{Check}
 use Rattle.house_file.specs.declared.reply.Check.the-variants.{Accepted, Refused}
 use Rattle.house_file.specs.declared.record.Record.{Record}
@@ -22,6 +22,12 @@ numberOf Unreached = 5
 numberOf Target = 6
 numberOf Kind = 7
 numberOf Repeat = 8
+numberOf RuleList = 9
+numberOf PartyPair = 10
+numberOf GivenWord = 11
+numberOf Scratch = 12
+numberOf Inconvertible = 13
+numberOf Output = 14
 
 -- refused where the test holds, otherwise what follows
 abbrev pub refuse : Bool → Refusal → Check → Check

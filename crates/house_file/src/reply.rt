@@ -2,7 +2,7 @@
 ghost use mathlib.Core.Path.{_≡_};
 ghost use Rattle.house_file.specs.Check.{numberOf};
 
-// The refusals that whoever wrote the file can cause; `numberOf` gives 01's number of each.
+// 01's refusals; `numberOf` gives the number of each. The first eight are caused by whoever wrote the file.
 pub enum Refusal {
     Length,
     Field,
@@ -12,6 +12,12 @@ pub enum Refusal {
     Target,
     Kind,
     Repeat,
+    RuleList,
+    PartyPair,
+    GivenWord,
+    Scratch,
+    Inconvertible,
+    Output,
 }
 
 pub enum Check {
@@ -32,5 +38,11 @@ pub fn number(x: Refusal) -> u8
         Refusal::Target => 6,
         Refusal::Kind => 7,
         Refusal::Repeat => 8,
+        Refusal::RuleList => 9,
+        Refusal::PartyPair => 10,
+        Refusal::GivenWord => 11,
+        Refusal::Scratch => 12,
+        Refusal::Inconvertible => 13,
+        Refusal::Output => 14,
     }
 }
