@@ -1,0 +1,38 @@
+-- With every symbol fixed the search is the word test.
+use mathlib.Core.Path.{_≡_, sym, ap, _∙_}
+use Prim.Native.Nat.{ℕ, _≤_}
+use native.Mathlib.Omega.{arith}
+use lib.ListN.{length}
+use Rattle.rebac.specs.Matter.{pair}
+use Rattle.rebac.specs.Options.{isSome}
+use Rattle.rebac.specs.Paths.{has}
+use Rattle.paths.specs.Word.{symbolsIn}
+use Rattle.masks.specs.Mask.{withBit}
+use Rattle.paths.specs.Search.{maskGraph, formOf}
+use Rattle.paths.specs.Ask.{searchPair}
+use Rattle.paths.proofs.SearchLaws.{found-is, symbols-length}
+use Rattle.paths.proofs.AskLaws.{search-has, has-fixed, all-fixed}
+use borrow.Author.Needs.{needs}
+use Rattle.paths.proofs.ask.has_word.Statement.{statement}
+use Rattle.paths.proofs.ask.has_word.Tie as tie
+use Rattle.paths.proofs.ask.has_word.Reads as reads
+use Rattle.paths.proofs.ask.has_word.Lts as lts
+use Rattle.paths.proofs.ask.search_pair.Reads as search-pair-reads
+
+-- src/ask.rt:36:9
+search-pair-requires : tie.Need-search-pair-requires
+search-pair-requires c κs = search needs
+
+-- src/ask.rt:32:1
+returns : tie.Need-returns
+returns c =
+    let a = c .before .args in
+    let n : length (a .w .symbols) ≡ 31 = search needs in
+    let k : length (symbolsIn (a .w)) ≡ a .w .len = symbols-length (a .w) (omega (arith, c .before .pre .short .len)) in
+    found-is 0 (withBit 0 (a .first)) (searchPair (a .n) (a .g) (a .first) (a .second) (formOf (a .w .len) (symbolsIn (a .w)))) (c .search-pair .result) (c .search-pair .ensures)
+    ∙ search-has (a .n) (a .g) (a .first) (a .second) _
+    ∙ ap (has (maskGraph (a .n) (a .g)) (pair (a .first) (a .second))) (all-fixed (symbolsIn (a .w)) (a .w .len) (omega arith))
+    ∙ has-fixed (a .n) (a .g) (pair (a .first) (a .second)) (symbolsIn (a .w))
+
+pub has-word-spec : {M : Type 1} → statement M
+has-word-spec = tie.close (tie.spec search-pair-requires returns)

@@ -1,0 +1,77 @@
+-- A word of no symbols and one of n or more have no path; any other is searched from place 0.
+use mathlib.Core.Path.{_≡_, refl, sym, ap, _∙_}
+use mathlib.Core.List.{List, []}
+use Prim.Native.Nat.{ℕ, _-_, _≤_}
+use native.Mathlib.Omega.{arith}
+use lib.ListN.{length}
+use Rattle.rebac.specs.Forms.{Place}
+use Rattle.paths.specs.Word.{symbolsIn}
+use Rattle.paths.specs.Search.{formOf}
+use Rattle.paths.specs.Ask.{searchPair}
+use Rattle.paths.proofs.SearchLaws.{found-none, symbols-length}
+use Rattle.paths.proofs.AskLaws.{search-empty, search-long, form-length}
+use borrow.Author.Needs.{needs}
+use Rattle.paths.proofs.ask.search_pair.Statement.{statement}
+use Rattle.paths.proofs.ask.search_pair.Tie as tie
+use Rattle.paths.proofs.ask.search_pair.Reads as reads
+use Rattle.paths.proofs.ask.search_pair.Lts as lts
+use Rattle.masks.proofs.with.Reads as with-reads
+use Rattle.paths.proofs.search.none.Reads as none-reads
+use Rattle.paths.proofs.search.party_search.Reads as party-search-reads
+
+-- src/ask.rt:23:9
+none-requires : tie.Need-none-requires
+none-requires c κs = search needs
+
+-- src/ask.rt:23:9
+returns : tie.Need-returns
+unfolding formOf
+returns c =
+    let x = c .before .before in
+    let a = x .args in
+    let q : formOf (a .fixed) (symbolsIn (a .w)) ≡ [] = rw (c .before .if1 .taken) in
+    found-none 0 _ _ _ (ap (searchPair (a .n) (a .g) (a .first) (a .second)) q ∙ search-empty (a .n) (a .g) (a .first) (a .second) (x .pre .different)) (c .none .ensures)
+
+-- src/ask.rt:26:9
+none-requires-2 : tie.Need-none-requires-2
+none-requires-2 c κs = search needs
+
+-- src/ask.rt:26:9
+returns-2 : tie.Need-returns-2
+returns-2 c =
+    let x = c .before .before .before in
+    let a = x .args in
+    let n : length (a .w .symbols) ≡ 31 = search needs in
+    let k : length (formOf (a .fixed) (symbolsIn (a .w))) ≡ a .w .len = form-length (a .fixed) (symbolsIn (a .w)) ∙ symbols-length (a .w) (omega (arith, x .pre .short .len)) in
+    found-none 0 _ _ _ (search-long (a .n) (a .g) (a .first) (a .second) (x .pre .start) _ (omega (arith, k, c .before .if2 .taken))) (c .none2 .ensures)
+
+-- src/ask.rt:28:67
+cast-with : tie.Need-cast-with
+cast-with c = search needs
+
+-- src/ask.rt:28:52
+with-requires : tie.Need-with-requires
+with-requires c κs = search needs
+
+-- src/ask.rt:28:5
+party-search-requires : tie.Need-party-search-requires
+party-search-requires c κs = search needs
+
+-- src/ask.rt:17:1
+returns-3 : tie.Need-returns-3
+returns-3 c =
+    let z : c .before .before .before .before .args .fixed - 0 ≡ c .before .before .before .before .args .fixed = omega arith in
+    rw (c .before .with .ensures, z) at (c .party-search .ensures)
+
+pub search-pair-spec : {M : Type 1} → statement M
+search-pair-spec =
+    tie.close
+    (tie.spec
+    none-requires
+    returns
+    none-requires-2
+    returns-2
+    cast-with
+    with-requires
+    party-search-requires
+    returns-3)

@@ -1,0 +1,690 @@
+-- Each turn of the loop is a candidate of the definition (SearchLaws); places left fall over the calls, candidates left over the loop.
+use mathlib.Core.Path.{_≡_, refl, sym, ap, _∙_}
+use mathlib.Core.Bool.{Bool, true, false}
+use mathlib.Core.List.{List, [], _∷_}
+use mathlib.Core.Logic.{_⊎_, ⊎-elim}
+use mathlib.Core.Option.{Option, none, some}
+use native.Mathlib.Omega.{arith}
+use borrow.Author.Needs.{needs, length-unmapped}
+use lib.ListN.{length, set}
+use Rattle.masks.specs.Mask.{testBit, withBit}
+use Rattle.masks.specs.Table.{maskAt}
+use Rattle.masks.proofs.BitLaws.{test-no, test-on, with-code}
+use Rattle.rebac.specs.Forms.{Place}
+use Rattle.rebac.specs.Marked.{onto}
+use Rattle.paths.specs.Search.{placeOn, placeAt, placesFrom, searchFrom, FoundAs}
+use Rattle.paths.proofs.SearchLaws.{onwards, through, search-start, search-last, onwards-end, onwards-skip, onwards-hit, through-visited, through-not, through-on, through-target, places-cons, places-end, found-none, found-not, found-some, found-onto, beyond-search, beyond-last}
+use Prim.Native.Nat.{ℕ, _+_, _-_, _*_, _≤_, _<_}
+use borrow.Fn.Kinds.{In}
+use borrow.Fn.PlainCycle.{Measures, is, falls, and}
+use Rattle.paths.proofs.search.candidate_search.Reads as candidate-search
+use Rattle.paths.proofs.search.candidate_search.Kinds as candidate-search-kinds
+use Rattle.paths.proofs.search.+candidate_search+party_search.Lts-candidate_search as candidate-search-lts
+use Rattle.paths.proofs.search.party_search.Reads as party-search
+use Rattle.paths.proofs.search.party_search.Kinds as party-search-kinds
+use Rattle.paths.proofs.search.+candidate_search+party_search.Lts-party_search as party-search-lts
+use Rattle.paths.proofs.search.allows.Reads as allows-reads
+use Rattle.paths.proofs.search.last_step.Reads as last-step-reads
+use Rattle.paths.proofs.search.none.Reads as none-reads
+use Rattle.paths.proofs.search.+candidate_search+party_search.{statement}
+use Rattle.paths.proofs.search.+candidate_search+party_search.Tie.{close}
+
+abbrev μ-candidate-search : Measures 0 candidate-search-kinds.ps ℕ
+μ-candidate-search κs a = (31 - a .1 .1 .1 .0) * 2
+
+abbrev μ-party-search : Measures 0 party-search-kinds.ps ℕ
+μ-party-search κs a = (31 - a .1 .1 .1 .0) * 2 + 1
+
+abbrev candidate-search-at : ℕ → In 0 candidate-search-kinds.ps
+candidate-search-at t =
+    and
+    0
+    candidate-search-kinds.ps
+    (is 0 candidate-search-kinds.ps μ-candidate-search t)
+    candidate-search.Pre
+
+abbrev candidate-search-below : ℕ → In 0 candidate-search-kinds.ps
+candidate-search-below t =
+    and
+    0
+    candidate-search-kinds.ps
+    (falls 0 candidate-search-kinds.ps _<_ μ-candidate-search t)
+    candidate-search.Pre
+
+abbrev party-search-at : ℕ → In 0 party-search-kinds.ps
+party-search-at t =
+    and 0 party-search-kinds.ps (is 0 party-search-kinds.ps μ-party-search t) party-search.Pre
+
+abbrev party-search-below : ℕ → In 0 party-search-kinds.ps
+party-search-below t =
+    and
+    0
+    party-search-kinds.ps
+    (falls 0 party-search-kinds.ps _<_ μ-party-search t)
+    party-search.Pre
+
+abbrev candidate-search-Inv-loop : candidate-search-lts.InvT-loop
+candidate-search-Inv-loop w fixed at n u target visited g len row v₀ v =
+    (v ≤ n) × (searchFrom n g visited u target (placesFrom w fixed at) ≡ onwards n g visited u target (placeAt w fixed at) (placesFrom w fixed (at + 1)) v)
+
+abbrev candidate-search-μ-loop : candidate-search-lts.MeasureT-loop
+candidate-search-μ-loop w fixed at n u target visited g len row v₀ v = n - v
+
+-- src/search.rt:83:15
+candidate-search-mul-row : (t : ℕ) → candidate-search-lts.Need-mul-row (
+  allows-reads.Asked,
+  allows-reads.Learnt,
+  none-reads.Asked,
+  none-reads.Learnt,
+  party-search-below t,
+  party-search.Post,
+  last-step-reads.Asked,
+  last-step-reads.Learnt,
+) (candidate-search-at t) candidate-search.Post candidate-search-Inv-loop candidate-search-μ-loop
+candidate-search-mul-row t c = search needs
+
+-- src/search.rt:83:15
+candidate-search-element-copy-out-row : (t : ℕ) → candidate-search-lts.Need-element-copy-out-row (
+  allows-reads.Asked,
+  allows-reads.Learnt,
+  none-reads.Asked,
+  none-reads.Learnt,
+  party-search-below t,
+  party-search.Post,
+  last-step-reads.Asked,
+  last-step-reads.Learnt,
+) (candidate-search-at t) candidate-search.Post candidate-search-Inv-loop candidate-search-μ-loop
+candidate-search-element-copy-out-row t c = search needs
+
+-- src/search.rt:85:5
+candidate-search-loop-holds : (t : ℕ) → candidate-search-lts.Need-loop-holds (
+  allows-reads.Asked,
+  allows-reads.Learnt,
+  none-reads.Asked,
+  none-reads.Learnt,
+  party-search-below t,
+  party-search.Post,
+  last-step-reads.Asked,
+  last-step-reads.Learnt,
+) (candidate-search-at t) candidate-search.Post candidate-search-Inv-loop candidate-search-μ-loop
+candidate-search-loop-holds t c =
+    let a = c .before .args in
+    let p = c .before .pre .1 .1 in
+    let n : length (a .w .symbols) ≡ 31 = search needs in
+    (search needs, ap (searchFrom (a .n) (a .t1) (a .visited) (a .u) (a .target)) (places-cons (a .w) (a .fixed) (a .at) (p .place) (omega (arith, p .short .len))) ∙ search-start (a .n) (a .t1) (a .visited) (a .u) (a .target) (placeAt (a .w) (a .fixed) (a .at)) (placesFrom (a .w) (a .fixed) (a .at + 1)))
+
+-- src/search.rt:87:21
+candidate-search-cast-c : (t : ℕ) → candidate-search-lts.Need-cast-c (
+  allows-reads.Asked,
+  allows-reads.Learnt,
+  none-reads.Asked,
+  none-reads.Learnt,
+  party-search-below t,
+  party-search.Post,
+  last-step-reads.Asked,
+  last-step-reads.Learnt,
+) (candidate-search-at t) candidate-search.Post candidate-search-Inv-loop candidate-search-μ-loop
+candidate-search-cast-c t c = search needs
+
+-- src/search.rt:88:17
+candidate-search-shr-if2 : (t : ℕ) → candidate-search-lts.Need-shr-if2 (
+  allows-reads.Asked,
+  allows-reads.Learnt,
+  none-reads.Asked,
+  none-reads.Learnt,
+  party-search-below t,
+  party-search.Post,
+  last-step-reads.Asked,
+  last-step-reads.Learnt,
+) (candidate-search-at t) candidate-search.Post candidate-search-Inv-loop candidate-search-μ-loop
+candidate-search-shr-if2 t c = search needs
+
+-- src/search.rt:89:41
+candidate-search-mul-allows : (t : ℕ) → candidate-search-lts.Need-mul-allows (
+  allows-reads.Asked,
+  allows-reads.Learnt,
+  none-reads.Asked,
+  none-reads.Learnt,
+  party-search-below t,
+  party-search.Post,
+  last-step-reads.Asked,
+  last-step-reads.Learnt,
+) (candidate-search-at t) candidate-search.Post candidate-search-Inv-loop candidate-search-μ-loop
+candidate-search-mul-allows t c = search needs
+
+-- src/search.rt:89:41
+candidate-search-element-copy-out-allows :
+    (t : ℕ) → candidate-search-lts.Need-element-copy-out-allows (
+      allows-reads.Asked,
+      allows-reads.Learnt,
+      none-reads.Asked,
+      none-reads.Learnt,
+      party-search-below t,
+      party-search.Post,
+      last-step-reads.Asked,
+      last-step-reads.Learnt,
+    )
+    (candidate-search-at t)
+    candidate-search.Post
+    candidate-search-Inv-loop
+    candidate-search-μ-loop
+candidate-search-element-copy-out-allows t c = search needs
+
+-- src/search.rt:89:20
+candidate-search-allows-requires : (t : ℕ) → candidate-search-lts.Need-allows-requires (
+  allows-reads.Asked,
+  allows-reads.Learnt,
+  none-reads.Asked,
+  none-reads.Learnt,
+  party-search-below t,
+  party-search.Post,
+  last-step-reads.Asked,
+  last-step-reads.Learnt,
+) (candidate-search-at t) candidate-search.Post candidate-search-Inv-loop candidate-search-μ-loop
+candidate-search-allows-requires t c κs =
+    (c .before .before .before .before .before .before .pre .1 .1 .short, c .before .before .before .before .before .before .pre .1 .1 .place)
+
+-- src/search.rt:90:43
+candidate-search-shl-more : (t : ℕ) → candidate-search-lts.Need-shl-more (
+  allows-reads.Asked,
+  allows-reads.Learnt,
+  none-reads.Asked,
+  none-reads.Learnt,
+  party-search-below t,
+  party-search.Post,
+  last-step-reads.Asked,
+  last-step-reads.Learnt,
+) (candidate-search-at t) candidate-search.Post candidate-search-Inv-loop candidate-search-μ-loop
+candidate-search-shl-more t c = search needs
+
+-- src/search.rt:91:33
+candidate-search-none-requires : (t : ℕ) → candidate-search-lts.Need-none-requires (
+  allows-reads.Asked,
+  allows-reads.Learnt,
+  none-reads.Asked,
+  none-reads.Learnt,
+  party-search-below t,
+  party-search.Post,
+  last-step-reads.Asked,
+  last-step-reads.Learnt,
+) (candidate-search-at t) candidate-search.Post candidate-search-Inv-loop candidate-search-μ-loop
+candidate-search-none-requires t c κs = search needs
+
+-- src/search.rt:92:24
+candidate-search-add-if4 : (t : ℕ) → candidate-search-lts.Need-add-if4 (
+  allows-reads.Asked,
+  allows-reads.Learnt,
+  none-reads.Asked,
+  none-reads.Learnt,
+  party-search-below t,
+  party-search.Post,
+  last-step-reads.Asked,
+  last-step-reads.Learnt,
+) (candidate-search-at t) candidate-search.Post candidate-search-Inv-loop candidate-search-μ-loop
+candidate-search-add-if4 t c = search needs
+
+-- src/search.rt:93:55
+candidate-search-add-party-search : (t : ℕ) → candidate-search-lts.Need-add-party-search (
+  allows-reads.Asked,
+  allows-reads.Learnt,
+  none-reads.Asked,
+  none-reads.Learnt,
+  party-search-below t,
+  party-search.Post,
+  last-step-reads.Asked,
+  last-step-reads.Learnt,
+) (candidate-search-at t) candidate-search.Post candidate-search-Inv-loop candidate-search-μ-loop
+candidate-search-add-party-search t c = search needs
+
+-- src/search.rt:93:29
+candidate-search-party-search-requires : (t : ℕ) → candidate-search-lts.Need-party-search-requires (
+  allows-reads.Asked,
+  allows-reads.Learnt,
+  none-reads.Asked,
+  none-reads.Learnt,
+  party-search-below t,
+  party-search.Post,
+  last-step-reads.Asked,
+  last-step-reads.Learnt,
+) (candidate-search-at t) candidate-search.Post candidate-search-Inv-loop candidate-search-μ-loop
+candidate-search-party-search-requires t c κs =
+    let x = c .before .before .before .before .before .before .before .before .before .before in
+    let p = x .pre .1 .1 in
+    (omega (arith, x .pre .0, x .pre .1 .0, p .short .len), record { short = p .short; place = x .pre .1 .0; parties = p .parties; start = c .before .before .before .before .before .before .before .loop-test .taken; end = p .end })
+
+-- src/search.rt:95:38
+candidate-search-mul-beyond : (t : ℕ) → candidate-search-lts.Need-mul-beyond (
+  allows-reads.Asked,
+  allows-reads.Learnt,
+  none-reads.Asked,
+  none-reads.Learnt,
+  party-search-below t,
+  party-search.Post,
+  last-step-reads.Asked,
+  last-step-reads.Learnt,
+) (candidate-search-at t) candidate-search.Post candidate-search-Inv-loop candidate-search-μ-loop
+candidate-search-mul-beyond t c = search needs
+
+-- src/search.rt:95:38
+candidate-search-element-copy-out-beyond :
+    (t : ℕ) → candidate-search-lts.Need-element-copy-out-beyond (
+      allows-reads.Asked,
+      allows-reads.Learnt,
+      none-reads.Asked,
+      none-reads.Learnt,
+      party-search-below t,
+      party-search.Post,
+      last-step-reads.Asked,
+      last-step-reads.Learnt,
+    )
+    (candidate-search-at t)
+    candidate-search.Post
+    candidate-search-Inv-loop
+    candidate-search-μ-loop
+candidate-search-element-copy-out-beyond t c = search needs
+
+-- src/search.rt:96:49
+candidate-search-add-last-step : (t : ℕ) → candidate-search-lts.Need-add-last-step (
+  allows-reads.Asked,
+  allows-reads.Learnt,
+  none-reads.Asked,
+  none-reads.Learnt,
+  party-search-below t,
+  party-search.Post,
+  last-step-reads.Asked,
+  last-step-reads.Learnt,
+) (candidate-search-at t) candidate-search.Post candidate-search-Inv-loop candidate-search-μ-loop
+candidate-search-add-last-step t c = search needs
+
+-- src/search.rt:96:57
+candidate-search-mul-last-step : (t : ℕ) → candidate-search-lts.Need-mul-last-step (
+  allows-reads.Asked,
+  allows-reads.Learnt,
+  none-reads.Asked,
+  none-reads.Learnt,
+  party-search-below t,
+  party-search.Post,
+  last-step-reads.Asked,
+  last-step-reads.Learnt,
+) (candidate-search-at t) candidate-search.Post candidate-search-Inv-loop candidate-search-μ-loop
+candidate-search-mul-last-step t c = search needs
+
+-- src/search.rt:96:57
+candidate-search-element-copy-out-last-step :
+    (t : ℕ) → candidate-search-lts.Need-element-copy-out-last-step (
+      allows-reads.Asked,
+      allows-reads.Learnt,
+      none-reads.Asked,
+      none-reads.Learnt,
+      party-search-below t,
+      party-search.Post,
+      last-step-reads.Asked,
+      last-step-reads.Learnt,
+    )
+    (candidate-search-at t)
+    candidate-search.Post
+    candidate-search-Inv-loop
+    candidate-search-μ-loop
+candidate-search-element-copy-out-last-step t c = search needs
+
+-- src/search.rt:96:79
+candidate-search-cast-last-step : (t : ℕ) → candidate-search-lts.Need-cast-last-step (
+  allows-reads.Asked,
+  allows-reads.Learnt,
+  none-reads.Asked,
+  none-reads.Learnt,
+  party-search-below t,
+  party-search.Post,
+  last-step-reads.Asked,
+  last-step-reads.Learnt,
+) (candidate-search-at t) candidate-search.Post candidate-search-Inv-loop candidate-search-μ-loop
+candidate-search-cast-last-step t c = search needs
+
+-- src/search.rt:96:29
+candidate-search-last-step-requires : (t : ℕ) → candidate-search-lts.Need-last-step-requires (
+  allows-reads.Asked,
+  allows-reads.Learnt,
+  none-reads.Asked,
+  none-reads.Learnt,
+  party-search-below t,
+  party-search.Post,
+  last-step-reads.Asked,
+  last-step-reads.Learnt,
+) (candidate-search-at t) candidate-search.Post candidate-search-Inv-loop candidate-search-μ-loop
+candidate-search-last-step-requires t c κs =
+    let x = c .before .before .before .before .before .before .before .before .before .before .before .before in
+    let p = x .pre .1 .1 in
+    (p .short, (x .pre .1 .0, omega (arith, p .parties, p .end)))
+
+-- src/search.rt:99:45
+candidate-search-cast-f : (t : ℕ) → candidate-search-lts.Need-cast-f (
+  allows-reads.Asked,
+  allows-reads.Learnt,
+  none-reads.Asked,
+  none-reads.Learnt,
+  party-search-below t,
+  party-search.Post,
+  last-step-reads.Asked,
+  last-step-reads.Learnt,
+) (candidate-search-at t) candidate-search.Post candidate-search-Inv-loop candidate-search-μ-loop
+candidate-search-cast-f t c = search needs
+
+-- src/search.rt:99:35
+candidate-search-add-f : (t : ℕ) → candidate-search-lts.Need-add-f (
+  allows-reads.Asked,
+  allows-reads.Learnt,
+  none-reads.Asked,
+  none-reads.Learnt,
+  party-search-below t,
+  party-search.Post,
+  last-step-reads.Asked,
+  last-step-reads.Learnt,
+) (candidate-search-at t) candidate-search.Post candidate-search-Inv-loop candidate-search-μ-loop
+candidate-search-add-f t c = search needs
+
+-- src/search.rt:99:25
+candidate-search-element-write-f : (t : ℕ) → candidate-search-lts.Need-element-write-f (
+  allows-reads.Asked,
+  allows-reads.Learnt,
+  none-reads.Asked,
+  none-reads.Learnt,
+  party-search-below t,
+  party-search.Post,
+  last-step-reads.Asked,
+  last-step-reads.Learnt,
+) (candidate-search-at t) candidate-search.Post candidate-search-Inv-loop candidate-search-μ-loop
+candidate-search-element-write-f t c = search needs
+
+-- src/search.rt:100:25
+candidate-search-returns : (t : ℕ) → candidate-search-lts.Need-returns (
+  allows-reads.Asked,
+  allows-reads.Learnt,
+  none-reads.Asked,
+  none-reads.Learnt,
+  party-search-below t,
+  party-search.Post,
+  last-step-reads.Asked,
+  last-step-reads.Learnt,
+) (candidate-search-at t) candidate-search.Post candidate-search-Inv-loop candidate-search-μ-loop
+candidate-search-returns t c =
+    let x = c .before .before .before .before .before .before .before .before .before .before .before in
+    let a = x .args in
+    let p = x .pre .1 .1 in
+    let l = c .before .before .before .before .before .before .before .before .before .loop in
+    let n : length (a .w .symbols) ≡ 31 = search needs in
+    let s : Place = placeAt (a .w) (a .fixed) (a .at) in
+    let xs : List Place = placesFrom (a .w) (a .fixed) (a .at + 1) in
+    let m = with-code 32 (a .visited) (l .v) (omega (arith, p .parties, c .before .before .before .before .before .before .before .before .loop-test .taken)) in
+    let h : FoundAs (a .at + 1) (withBit (a .visited) (l .v)) (searchFrom (a .n) (a .t1) (withBit (a .visited) (l .v)) (l .v) (a .target) xs) (c .before .if4 .f) =
+    ⊎-elim
+    (λ w. beyond-search (a .n) (a .t1) (a .w) (a .fixed) (a .at) (a .visited) (a .target) (l .v) _ m _ _ (w .2) (w .1 .ensures))
+    (λ w. beyond-last (a .n) (a .t1) (a .w) (a .fixed) (a .at) (a .visited) (a .target) (l .v) _ m _ _ (w .4) (omega (arith, w .0 .left, x .pre .1 .0)) (omega (arith, p .short .len)) (p .end) (w .3 .ensures))
+    (c .before .if4 .came) in
+    let bound : a .at + 1 < 32 = omega (arith, x .pre .1 .0, p .short .len) in
+    let o = found-some (a .at + 1) (withBit (a .visited) (l .v)) (searchFrom (a .n) (a .t1) (withBit (a .visited) (l .v)) (l .v) (a .target) xs) (c .before .if4 .f) h (c .if5 .taken) in
+    let on = sym (c .before .before .before .before .allows .ensures) ∙ c .before .before .before .if3 .taken in
+    let off = test-no (a .visited) (l .v) (c .before .before .before .before .before .before .if2 .taken) in
+    let q = through-on (a .n) (a .t1) (a .visited) (a .u) (a .target) s xs (l .v) off on ∙ ap (onto (l .v)) (o .1) in
+    rw (l .inv .1 ∙ onwards-hit (a .n) (a .t1) (a .visited) (a .u) (a .target) s xs (l .v) (l .v ∷ o .0) (c .before .before .before .before .before .before .before .before .loop-test .taken) q)
+    (found-onto (a .at) (a .visited) (l .v) (o .0) (c .before .if4 .f) _ bound (rw (o .1) at h) (c .if5 .taken) refl refl)
+
+-- src/search.rt:105:9
+candidate-search-add-v : (t : ℕ) → candidate-search-lts.Need-add-v (
+  allows-reads.Asked,
+  allows-reads.Learnt,
+  none-reads.Asked,
+  none-reads.Learnt,
+  party-search-below t,
+  party-search.Post,
+  last-step-reads.Asked,
+  last-step-reads.Learnt,
+) (candidate-search-at t) candidate-search.Post candidate-search-Inv-loop candidate-search-μ-loop
+candidate-search-add-v t c = search needs
+
+-- src/search.rt:85:5
+candidate-search-loop-less : (t : ℕ) → candidate-search-lts.Need-loop-less (
+  allows-reads.Asked,
+  allows-reads.Learnt,
+  none-reads.Asked,
+  none-reads.Learnt,
+  party-search-below t,
+  party-search.Post,
+  last-step-reads.Asked,
+  last-step-reads.Learnt,
+) (candidate-search-at t) candidate-search.Post candidate-search-Inv-loop candidate-search-μ-loop
+candidate-search-loop-less t c = search needs
+
+-- src/search.rt:85:5
+candidate-search-loop-again : (t : ℕ) → candidate-search-lts.Need-loop-again (
+  allows-reads.Asked,
+  allows-reads.Learnt,
+  none-reads.Asked,
+  none-reads.Learnt,
+  party-search-below t,
+  party-search.Post,
+  last-step-reads.Asked,
+  last-step-reads.Learnt,
+) (candidate-search-at t) candidate-search.Post candidate-search-Inv-loop candidate-search-μ-loop
+candidate-search-loop-again t c =
+    let x = c .before .before .before .before in
+    let a = x .args in
+    let p = x .pre .1 .1 in
+    let l = c .before .before .loop in
+    let n : length (a .w .symbols) ≡ 31 = search needs in
+    let s : Place = placeAt (a .w) (a .fixed) (a .at) in
+    let xs : List Place = placesFrom (a .w) (a .fixed) (a .at + 1) in
+    let m = with-code 32 (a .visited) (l .v) (omega (arith, p .parties, c .before .loop-test .taken)) in
+    let z : through (a .n) (a .t1) (a .visited) (a .u) (a .target) s xs (l .v) ≡ none =
+    ⊎-elim
+    (λ y.
+    let h : FoundAs (a .at + 1) (withBit (a .visited) (l .v)) (searchFrom (a .n) (a .t1) (withBit (a .visited) (l .v)) (l .v) (a .target) xs) (y .6 .f) =
+    ⊎-elim
+    (λ w. beyond-search (a .n) (a .t1) (a .w) (a .fixed) (a .at) (a .visited) (a .target) (l .v) _ m _ _ (w .2) (w .1 .ensures))
+    (λ w. beyond-last (a .n) (a .t1) (a .w) (a .fixed) (a .at) (a .visited) (a .target) (l .v) _ m _ _ (w .4) (omega (arith, w .0 .left, x .pre .1 .0)) (omega (arith, p .short .len)) (p .end) (w .3 .ensures))
+    (y .6 .came) in
+    through-on (a .n) (a .t1) (a .visited) (a .u) (a .target) s xs (l .v) (test-no (a .visited) (l .v) (y .1 .taken)) (sym (y .3 .ensures) ∙ y .4 .taken)
+    ∙ ap (onto (l .v)) (found-not (a .at + 1) (withBit (a .visited) (l .v)) (searchFrom (a .n) (a .t1) (withBit (a .visited) (l .v)) (l .v) (a .target) xs) (y .6 .f) h (y .7 .left)))
+    (⊎-elim
+    (λ y. through-not (a .n) (a .t1) (a .visited) (a .u) (a .target) s xs (l .v) (sym (y .3 .ensures) ∙ y .4 .left))
+    (⊎-elim
+    (λ y. through-visited (a .n) (a .t1) (a .visited) (a .u) (a .target) s xs (l .v) (test-on (a .visited) (l .v) (y .1 .left)))
+    (λ y. rw (y .left) (through-target (a .n) (a .t1) (a .visited) (a .u) (a .target) s _ xs _ (places-cons (a .w) (a .fixed) (a .at + 1) (x .pre .1 .0) (omega (arith, p .short .len))) (p .end)))))
+    (c .if1 .came) in
+    (omega (arith, c .before .loop-test .taken), l .inv .1 ∙ onwards-skip (a .n) (a .t1) (a .visited) (a .u) (a .target) s xs (l .v) (c .before .loop-test .taken) z)
+
+-- src/search.rt:107:5
+candidate-search-none-requires-2 : (t : ℕ) → candidate-search-lts.Need-none-requires-2 (
+  allows-reads.Asked,
+  allows-reads.Learnt,
+  none-reads.Asked,
+  none-reads.Learnt,
+  party-search-below t,
+  party-search.Post,
+  last-step-reads.Asked,
+  last-step-reads.Learnt,
+) (candidate-search-at t) candidate-search.Post candidate-search-Inv-loop candidate-search-μ-loop
+candidate-search-none-requires-2 t c κs = search needs
+
+-- src/search.rt:78:1
+candidate-search-returns-2 : (t : ℕ) → candidate-search-lts.Need-returns-2 (
+  allows-reads.Asked,
+  allows-reads.Learnt,
+  none-reads.Asked,
+  none-reads.Learnt,
+  party-search-below t,
+  party-search.Post,
+  last-step-reads.Asked,
+  last-step-reads.Learnt,
+) (candidate-search-at t) candidate-search.Post candidate-search-Inv-loop candidate-search-μ-loop
+candidate-search-returns-2 t c =
+    let a = c .before .before .before .before .args in
+    let l = c .before .before .loop in
+    found-none (a .at) (a .visited) _ _ (l .inv .1 ∙ onwards-end (a .n) (a .t1) (a .visited) (a .u) (a .target) (placeAt (a .w) (a .fixed) (a .at)) (placesFrom (a .w) (a .fixed) (a .at + 1)) (l .v) (c .before .loop-test .left)) (c .none2 .ensures)
+
+-- src/search.rt:70:8
+party-search-add-if1 : (t : ℕ) → party-search-lts.Need-add-if1 (
+  candidate-search-below t,
+  candidate-search.Post,
+  last-step-reads.Asked,
+  last-step-reads.Learnt,
+) (party-search-at t) party-search.Post
+party-search-add-if1 t c = search needs
+
+-- src/search.rt:71:9
+party-search-candidate-search-requires : (t : ℕ) → party-search-lts.Need-candidate-search-requires (
+  candidate-search-below t,
+  candidate-search.Post,
+  last-step-reads.Asked,
+  last-step-reads.Learnt,
+) (party-search-at t) party-search.Post
+party-search-candidate-search-requires t c κs =
+    let p = c .before .pre .1 in
+    (omega (arith, c .before .pre .0), (c .if1 .taken, p))
+
+-- src/search.rt:71:9
+party-search-returns : (t : ℕ) → party-search-lts.Need-returns (
+  candidate-search-below t,
+  candidate-search.Post,
+  last-step-reads.Asked,
+  last-step-reads.Learnt,
+) (party-search-at t) party-search.Post
+party-search-returns t c =
+    c .candidate-search .ensures
+
+-- src/search.rt:73:15
+party-search-mul-row : (t : ℕ) → party-search-lts.Need-mul-row (
+  candidate-search-below t,
+  candidate-search.Post,
+  last-step-reads.Asked,
+  last-step-reads.Learnt,
+) (party-search-at t) party-search.Post
+party-search-mul-row t c = search needs
+
+-- src/search.rt:73:15
+party-search-element-copy-out-row : (t : ℕ) → party-search-lts.Need-element-copy-out-row (
+  candidate-search-below t,
+  candidate-search.Post,
+  last-step-reads.Asked,
+  last-step-reads.Learnt,
+) (party-search-at t) party-search.Post
+party-search-element-copy-out-row t c = search needs
+
+-- src/search.rt:74:29
+party-search-mul-last-step : (t : ℕ) → party-search-lts.Need-mul-last-step (
+  candidate-search-below t,
+  candidate-search.Post,
+  last-step-reads.Asked,
+  last-step-reads.Learnt,
+) (party-search-at t) party-search.Post
+party-search-mul-last-step t c = search needs
+
+-- src/search.rt:74:29
+party-search-element-copy-out-last-step :
+    (t : ℕ) → party-search-lts.Need-element-copy-out-last-step (
+      candidate-search-below t,
+      candidate-search.Post,
+      last-step-reads.Asked,
+      last-step-reads.Learnt,
+    ) (party-search-at t) party-search.Post
+party-search-element-copy-out-last-step t c = search needs
+
+-- src/search.rt:74:48
+party-search-cast-last-step : (t : ℕ) → party-search-lts.Need-cast-last-step (
+  candidate-search-below t,
+  candidate-search.Post,
+  last-step-reads.Asked,
+  last-step-reads.Learnt,
+) (party-search-at t) party-search.Post
+party-search-cast-last-step t c = search needs
+
+-- src/search.rt:74:5
+party-search-last-step-requires : (t : ℕ) → party-search-lts.Need-last-step-requires (
+  candidate-search-below t,
+  candidate-search.Post,
+  last-step-reads.Asked,
+  last-step-reads.Learnt,
+) (party-search-at t) party-search.Post
+party-search-last-step-requires t c κs =
+    let p = c .before .before .before .pre .1 in
+    (p .short, (p .place, omega (arith, p .parties, p .end)))
+
+-- src/search.rt:65:1
+party-search-returns-2 : (t : ℕ) → party-search-lts.Need-returns-2 (
+  candidate-search-below t,
+  candidate-search.Post,
+  last-step-reads.Asked,
+  last-step-reads.Learnt,
+) (party-search-at t) party-search.Post
+party-search-returns-2 t c =
+    let x = c .before .before .before .before in
+    let a = x .args in
+    let p = x .pre .1 in
+    let n : length (a .w .symbols) ≡ 31 = search needs in
+    let q : placesFrom (a .w) (a .fixed) (a .at) ≡ placeAt (a .w) (a .fixed) (a .at) ∷ [] =
+    places-cons (a .w) (a .fixed) (a .at) (p .place) (omega (arith, p .short .len))
+    ∙ ap (λ (xs : List Place). placeAt (a .w) (a .fixed) (a .at) ∷ xs) (places-end (a .w) (a .fixed) (a .at + 1) (omega (arith, c .before .before .before .if1 .left)) (omega (arith, p .short .len))) in
+    rw (q, search-last (a .n) (a .t1) (a .visited) (a .u) (a .target) (p .end) (placeAt (a .w) (a .fixed) (a .at))) (c .last-step .ensures)
+
+pub +candidate-search+party-search-spec : {M : Type 1} → statement M
++candidate-search+party-search-spec =
+    close μ-candidate-search μ-party-search (λ t. candidate-search-lts.spec (
+      allows-reads.Asked,
+      allows-reads.Learnt,
+      none-reads.Asked,
+      none-reads.Learnt,
+      party-search-below t,
+      party-search.Post,
+      last-step-reads.Asked,
+      last-step-reads.Learnt,
+    )
+    (candidate-search-at t)
+    candidate-search.Post
+    candidate-search-Inv-loop
+    candidate-search-μ-loop
+    (candidate-search-mul-row t)
+    (candidate-search-element-copy-out-row t)
+    (candidate-search-loop-holds t)
+    (candidate-search-cast-c t)
+    (candidate-search-shr-if2 t)
+    (candidate-search-mul-allows t)
+    (candidate-search-element-copy-out-allows t)
+    (candidate-search-allows-requires t)
+    (candidate-search-shl-more t)
+    (candidate-search-none-requires t)
+    (candidate-search-add-if4 t)
+    (candidate-search-add-party-search t)
+    (candidate-search-party-search-requires t)
+    (candidate-search-mul-beyond t)
+    (candidate-search-element-copy-out-beyond t)
+    (candidate-search-add-last-step t)
+    (candidate-search-mul-last-step t)
+    (candidate-search-element-copy-out-last-step t)
+    (candidate-search-cast-last-step t)
+    (candidate-search-last-step-requires t)
+    (candidate-search-cast-f t)
+    (candidate-search-add-f t)
+    (candidate-search-element-write-f t)
+    (candidate-search-returns t)
+    (candidate-search-add-v t)
+    (candidate-search-loop-less t)
+    (candidate-search-loop-again t)
+    (candidate-search-none-requires-2 t)
+    (candidate-search-returns-2 t))
+    λ t. party-search-lts.spec (
+      candidate-search-below t,
+      candidate-search.Post,
+      last-step-reads.Asked,
+      last-step-reads.Learnt,
+    )
+    (party-search-at t)
+    party-search.Post
+    (party-search-add-if1 t)
+    (party-search-candidate-search-requires t)
+    (party-search-returns t)
+    (party-search-mul-row t)
+    (party-search-element-copy-out-row t)
+    (party-search-mul-last-step t)
+    (party-search-element-copy-out-last-step t)
+    (party-search-cast-last-step t)
+    (party-search-last-step-requires t)
+    (party-search-returns-2 t)

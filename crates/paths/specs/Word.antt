@@ -1,0 +1,14 @@
+-- A word as one value: a length and 31 symbols, of which those past the length mean nothing.
+use Prim.Native.Nat.{ℕ, _≤_, _<_}
+use mathlib.Core.List.{List}
+use lib.ListN.{take, getD}
+use Rattle.paths.specs.declared.word.Word.{Word}
+
+-- the word's symbols
+abbrev pub symbolsIn : Word → List ℕ
+symbolsIn w = take (w .len) (w .symbols)
+
+-- a word that fits its array and whose symbols can be tested by shift
+pub record Short (w : Word) : Type 0 where
+  pub len : w .len ≤ 31
+  pub symbols : (i : ℕ) → getD (w .symbols) i 0 < 32

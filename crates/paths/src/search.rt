@@ -1,0 +1,126 @@
+// Party search and candidate search call each other. The first `fixed` symbols of a word are fixed, and each later one is a floor.
+ghost use mathlib.Core.Path.{_≡_};
+ghost use mathlib.Core.Bool.{false, not, _&&_};
+ghost use mathlib.Core.List.{_∷_, []};
+ghost use mathlib.Core.Option.{some};
+ghost use Prim.Native.Nat.{_+_, _-_, _≤_, _<_};
+ghost use lib.ListN.{drop};
+ghost use lib.Dec.{ltb};
+ghost use Rattle.masks.specs.Mask.{testBit, withBit};
+ghost use Rattle.rebac.specs.Options.{given};
+ghost use Rattle.paths.specs.Word.{Short};
+ghost use Rattle.paths.specs.Search.{placeAt, placeOn, placesFrom, searchFrom, FoundAs, Asked};
+use crate::word::Word;
+use masks::Table;
+
+// What a search found: whether there is a path, its parties as a mask, and its parties in order from place 0.
+pub struct Found {
+    pub found: bool,
+    pub visited: u32,
+    pub parties: [u8; 32],
+}
+
+pub fn none() -> Found
+    ensures { λ r. ⌜ r .found ≡ false ⌝ }
+{
+    Found {
+        found: false,
+        visited: 0,
+        parties: [0u8; 32],
+    }
+}
+
+// Whether some symbol of the mask may stand at place `at`.
+fn allows(w: Word, fixed: usize, at: usize, mask: u32) -> bool
+    requires { ⌜ Short w × (at < w .len) ⌝ }
+    ensures { λ r. ⌜ r ≡ placeOn (placeAt w fixed at) mask ⌝ }
+{
+    let s = w.symbols[at];
+    if at < fixed {
+        return (mask >> s) & 1 == 1;
+    }
+    mask >> s != 0
+}
+
+// The last step, to the target itself.
+fn last_step(w: Word, fixed: usize, at: usize, mask: u32, target: u32, visited: u32) -> Found
+    requires { ⌜ Short w × ((at < w .len) × (target < 32)) ⌝ }
+    ensures { λ r. ⌜ FoundAs at visited (given (not (testBit visited target) && placeOn (placeAt w fixed at) mask) (some (target ∷ []))) r ⌝ }
+{
+    if (visited >> target) & 1 == 0 {
+        if allows(w, fixed, at, mask) {
+            let mut parties = [0u8; 32];
+            parties[at + 1] = target as u8;
+            return Found {
+                found: true,
+                visited: visited | (1u32 << target),
+                parties,
+            };
+        }
+    }
+    none()
+}
+
+// From party u along the places from `at` on.
+pub fn party_search(
+    g: Table,
+    w: Word,
+    fixed: usize,
+    at: usize,
+    n: usize,
+    u: usize,
+    target: usize,
+    visited: u32,
+) -> Found
+    requires { ⌜ Asked w at n u target ⌝ }
+    ensures { λ r. ⌜ FoundAs at visited (searchFrom n g visited u target (placesFrom w fixed at)) r ⌝ }
+{
+    let len = w.len;
+    if at + 1 < len {
+        return candidate_search(g, w, fixed, at, n, u, target, visited);
+    }
+    let row = g.rows[u];
+    last_step(w, fixed, at, row.masks[target], target as u32, visited)
+}
+
+// The candidates after party u in ascending order, and from each to the party beyond. The target ends a path, so it is no candidate here.
+pub fn candidate_search(
+    g: Table,
+    w: Word,
+    fixed: usize,
+    at: usize,
+    n: usize,
+    u: usize,
+    target: usize,
+    visited: u32,
+) -> Found
+    requires { ⌜ (at + 1 < w .len) × Asked w at n u target ⌝ }
+    ensures { λ r. ⌜ FoundAs at visited (searchFrom n g visited u target (placesFrom w fixed at)) r ⌝ }
+{
+    let len = w.len;
+    let row = g.rows[u];
+    let mut v: usize = 0;
+    while v < n {
+        if v != target {
+            let c = v as u32;
+            if (visited >> c) & 1 == 0 {
+                if allows(w, fixed, at, row.masks[v]) {
+                    let more = visited | (1u32 << c);
+                    let mut f = none();
+                    if at + 2 < len {
+                        f = party_search(g, w, fixed, at + 1, n, v, target, more);
+                    } else {
+                        let beyond = g.rows[v];
+                        f = last_step(w, fixed, at + 1, beyond.masks[target], target as u32, more);
+                    }
+                    if f.found {
+                        f.parties[at + 1] = v as u8;
+                        return f;
+                    }
+                }
+            }
+        }
+        v += 1;
+    }
+    none()
+}

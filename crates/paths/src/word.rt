@@ -1,0 +1,5 @@
+// A word as one value, carried between calls: its length and 31 symbols, of which those past the length mean nothing.
+pub struct Word {
+    pub len: usize,
+    pub symbols: [u8; 31],
+}
