@@ -1,3 +1,4 @@
 pub mod Word
 pub mod Search
 pub mod Ask
+pub mod Next

@@ -1,5 +1,6 @@
 // Paths and words: the search over the enlarged graph, the word test, and the path and next-word calls.
 mod ask;
+mod next;
 mod search;
 mod word;
 

@@ -15,15 +15,10 @@ use Rattle.paths.proofs.AskLaws.{search-has, has-fixed, all-fixed}
 use borrow.Author.Needs.{needs}
 use Rattle.paths.proofs.ask.has_word.Statement.{statement}
 use Rattle.paths.proofs.ask.has_word.Tie as tie
-use Rattle.paths.proofs.ask.has_word.Reads as reads
-use Rattle.paths.proofs.ask.has_word.Lts as lts
-use Rattle.paths.proofs.ask.search_pair.Reads as search-pair-reads
 
--- src/ask.rt:36:9
 search-pair-requires : tie.Need-search-pair-requires
 search-pair-requires c κs = search needs
 
--- src/ask.rt:32:1
 returns : tie.Need-returns
 returns c =
     let a = c .before .args in

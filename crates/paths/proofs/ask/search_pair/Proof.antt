@@ -13,17 +13,10 @@ use Rattle.paths.proofs.AskLaws.{search-empty, search-long, form-length
 use borrow.Author.Needs.{needs}
 use Rattle.paths.proofs.ask.search_pair.Statement.{statement}
 use Rattle.paths.proofs.ask.search_pair.Tie as tie
-use Rattle.paths.proofs.ask.search_pair.Reads as reads
-use Rattle.paths.proofs.ask.search_pair.Lts as lts
-use Rattle.masks.proofs.with.Reads as with-reads
-use Rattle.paths.proofs.search.none.Reads as none-reads
-use Rattle.paths.proofs.search.party_search.Reads as party-search-reads
 
--- src/ask.rt:23:9
 none-requires : tie.Need-none-requires
 none-requires c κs = search needs
 
--- src/ask.rt:23:9
 returns : tie.Need-returns
 unfolding formOf
 returns c =
@@ -32,11 +25,9 @@ returns c =
     let q : formOf (a .fixed) (symbolsIn (a .w)) ≡ [] = rw (c .before .if1 .taken) in
     found-none 0 _ _ _ (ap (searchPair (a .n) (a .g) (a .first) (a .second)) q ∙ search-empty (a .n) (a .g) (a .first) (a .second) (x .pre .different)) (c .none .ensures)
 
--- src/ask.rt:26:9
 none-requires-2 : tie.Need-none-requires-2
 none-requires-2 c κs = search needs
 
--- src/ask.rt:26:9
 returns-2 : tie.Need-returns-2
 returns-2 c =
     let x = c .before .before .before in
@@ -45,19 +36,15 @@ returns-2 c =
     let k : length (formOf (a .fixed) (symbolsIn (a .w))) ≡ a .w .len = form-length (a .fixed) (symbolsIn (a .w)) ∙ symbols-length (a .w) (omega (arith, x .pre .short .len)) in
     found-none 0 _ _ _ (search-long (a .n) (a .g) (a .first) (a .second) (x .pre .start) _ (omega (arith, k, c .before .if2 .taken))) (c .none2 .ensures)
 
--- src/ask.rt:28:67
 cast-with : tie.Need-cast-with
 cast-with c = search needs
 
--- src/ask.rt:28:52
 with-requires : tie.Need-with-requires
 with-requires c κs = search needs
 
--- src/ask.rt:28:5
 party-search-requires : tie.Need-party-search-requires
 party-search-requires c κs = search needs
 
--- src/ask.rt:17:1
 returns-3 : tie.Need-returns-3
 returns-3 c =
     let z : c .before .before .before .before .args .fixed - 0 ≡ c .before .before .before .before .args .fixed = omega arith in

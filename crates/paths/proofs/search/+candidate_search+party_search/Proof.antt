@@ -70,7 +70,6 @@ candidate-search-Inv-loop w fixed at n u target visited g len row v₀ v =
 abbrev candidate-search-μ-loop : candidate-search-lts.MeasureT-loop
 candidate-search-μ-loop w fixed at n u target visited g len row v₀ v = n - v
 
--- src/search.rt:83:15
 candidate-search-mul-row : (t : ℕ) → candidate-search-lts.Need-mul-row (
   allows-reads.Asked,
   allows-reads.Learnt,
@@ -83,7 +82,6 @@ candidate-search-mul-row : (t : ℕ) → candidate-search-lts.Need-mul-row (
 ) (candidate-search-at t) candidate-search.Post candidate-search-Inv-loop candidate-search-μ-loop
 candidate-search-mul-row t c = search needs
 
--- src/search.rt:83:15
 candidate-search-element-copy-out-row : (t : ℕ) → candidate-search-lts.Need-element-copy-out-row (
   allows-reads.Asked,
   allows-reads.Learnt,
@@ -96,7 +94,6 @@ candidate-search-element-copy-out-row : (t : ℕ) → candidate-search-lts.Need-
 ) (candidate-search-at t) candidate-search.Post candidate-search-Inv-loop candidate-search-μ-loop
 candidate-search-element-copy-out-row t c = search needs
 
--- src/search.rt:85:5
 candidate-search-loop-holds : (t : ℕ) → candidate-search-lts.Need-loop-holds (
   allows-reads.Asked,
   allows-reads.Learnt,
@@ -113,7 +110,6 @@ candidate-search-loop-holds t c =
     let n : length (a .w .symbols) ≡ 31 = search needs in
     (search needs, ap (searchFrom (a .n) (a .t1) (a .visited) (a .u) (a .target)) (places-cons (a .w) (a .fixed) (a .at) (p .place) (omega (arith, p .short .len))) ∙ search-start (a .n) (a .t1) (a .visited) (a .u) (a .target) (placeAt (a .w) (a .fixed) (a .at)) (placesFrom (a .w) (a .fixed) (a .at + 1)))
 
--- src/search.rt:87:21
 candidate-search-cast-c : (t : ℕ) → candidate-search-lts.Need-cast-c (
   allows-reads.Asked,
   allows-reads.Learnt,
@@ -126,7 +122,6 @@ candidate-search-cast-c : (t : ℕ) → candidate-search-lts.Need-cast-c (
 ) (candidate-search-at t) candidate-search.Post candidate-search-Inv-loop candidate-search-μ-loop
 candidate-search-cast-c t c = search needs
 
--- src/search.rt:88:17
 candidate-search-shr-if2 : (t : ℕ) → candidate-search-lts.Need-shr-if2 (
   allows-reads.Asked,
   allows-reads.Learnt,
@@ -139,7 +134,6 @@ candidate-search-shr-if2 : (t : ℕ) → candidate-search-lts.Need-shr-if2 (
 ) (candidate-search-at t) candidate-search.Post candidate-search-Inv-loop candidate-search-μ-loop
 candidate-search-shr-if2 t c = search needs
 
--- src/search.rt:89:41
 candidate-search-mul-allows : (t : ℕ) → candidate-search-lts.Need-mul-allows (
   allows-reads.Asked,
   allows-reads.Learnt,
@@ -152,7 +146,6 @@ candidate-search-mul-allows : (t : ℕ) → candidate-search-lts.Need-mul-allows
 ) (candidate-search-at t) candidate-search.Post candidate-search-Inv-loop candidate-search-μ-loop
 candidate-search-mul-allows t c = search needs
 
--- src/search.rt:89:41
 candidate-search-element-copy-out-allows :
     (t : ℕ) → candidate-search-lts.Need-element-copy-out-allows (
       allows-reads.Asked,
@@ -170,7 +163,6 @@ candidate-search-element-copy-out-allows :
     candidate-search-μ-loop
 candidate-search-element-copy-out-allows t c = search needs
 
--- src/search.rt:89:20
 candidate-search-allows-requires : (t : ℕ) → candidate-search-lts.Need-allows-requires (
   allows-reads.Asked,
   allows-reads.Learnt,
@@ -184,7 +176,6 @@ candidate-search-allows-requires : (t : ℕ) → candidate-search-lts.Need-allow
 candidate-search-allows-requires t c κs =
     (c .before .before .before .before .before .before .pre .1 .1 .short, c .before .before .before .before .before .before .pre .1 .1 .place)
 
--- src/search.rt:90:43
 candidate-search-shl-more : (t : ℕ) → candidate-search-lts.Need-shl-more (
   allows-reads.Asked,
   allows-reads.Learnt,
@@ -197,7 +188,6 @@ candidate-search-shl-more : (t : ℕ) → candidate-search-lts.Need-shl-more (
 ) (candidate-search-at t) candidate-search.Post candidate-search-Inv-loop candidate-search-μ-loop
 candidate-search-shl-more t c = search needs
 
--- src/search.rt:91:33
 candidate-search-none-requires : (t : ℕ) → candidate-search-lts.Need-none-requires (
   allows-reads.Asked,
   allows-reads.Learnt,
@@ -210,7 +200,6 @@ candidate-search-none-requires : (t : ℕ) → candidate-search-lts.Need-none-re
 ) (candidate-search-at t) candidate-search.Post candidate-search-Inv-loop candidate-search-μ-loop
 candidate-search-none-requires t c κs = search needs
 
--- src/search.rt:92:24
 candidate-search-add-if4 : (t : ℕ) → candidate-search-lts.Need-add-if4 (
   allows-reads.Asked,
   allows-reads.Learnt,
@@ -223,7 +212,6 @@ candidate-search-add-if4 : (t : ℕ) → candidate-search-lts.Need-add-if4 (
 ) (candidate-search-at t) candidate-search.Post candidate-search-Inv-loop candidate-search-μ-loop
 candidate-search-add-if4 t c = search needs
 
--- src/search.rt:93:55
 candidate-search-add-party-search : (t : ℕ) → candidate-search-lts.Need-add-party-search (
   allows-reads.Asked,
   allows-reads.Learnt,
@@ -236,7 +224,6 @@ candidate-search-add-party-search : (t : ℕ) → candidate-search-lts.Need-add-
 ) (candidate-search-at t) candidate-search.Post candidate-search-Inv-loop candidate-search-μ-loop
 candidate-search-add-party-search t c = search needs
 
--- src/search.rt:93:29
 candidate-search-party-search-requires : (t : ℕ) → candidate-search-lts.Need-party-search-requires (
   allows-reads.Asked,
   allows-reads.Learnt,
@@ -252,7 +239,6 @@ candidate-search-party-search-requires t c κs =
     let p = x .pre .1 .1 in
     (omega (arith, x .pre .0, x .pre .1 .0, p .short .len), record { short = p .short; place = x .pre .1 .0; parties = p .parties; start = c .before .before .before .before .before .before .before .loop-test .taken; end = p .end })
 
--- src/search.rt:95:38
 candidate-search-mul-beyond : (t : ℕ) → candidate-search-lts.Need-mul-beyond (
   allows-reads.Asked,
   allows-reads.Learnt,
@@ -265,7 +251,6 @@ candidate-search-mul-beyond : (t : ℕ) → candidate-search-lts.Need-mul-beyond
 ) (candidate-search-at t) candidate-search.Post candidate-search-Inv-loop candidate-search-μ-loop
 candidate-search-mul-beyond t c = search needs
 
--- src/search.rt:95:38
 candidate-search-element-copy-out-beyond :
     (t : ℕ) → candidate-search-lts.Need-element-copy-out-beyond (
       allows-reads.Asked,
@@ -283,7 +268,6 @@ candidate-search-element-copy-out-beyond :
     candidate-search-μ-loop
 candidate-search-element-copy-out-beyond t c = search needs
 
--- src/search.rt:96:49
 candidate-search-add-last-step : (t : ℕ) → candidate-search-lts.Need-add-last-step (
   allows-reads.Asked,
   allows-reads.Learnt,
@@ -296,7 +280,6 @@ candidate-search-add-last-step : (t : ℕ) → candidate-search-lts.Need-add-las
 ) (candidate-search-at t) candidate-search.Post candidate-search-Inv-loop candidate-search-μ-loop
 candidate-search-add-last-step t c = search needs
 
--- src/search.rt:96:57
 candidate-search-mul-last-step : (t : ℕ) → candidate-search-lts.Need-mul-last-step (
   allows-reads.Asked,
   allows-reads.Learnt,
@@ -309,7 +292,6 @@ candidate-search-mul-last-step : (t : ℕ) → candidate-search-lts.Need-mul-las
 ) (candidate-search-at t) candidate-search.Post candidate-search-Inv-loop candidate-search-μ-loop
 candidate-search-mul-last-step t c = search needs
 
--- src/search.rt:96:57
 candidate-search-element-copy-out-last-step :
     (t : ℕ) → candidate-search-lts.Need-element-copy-out-last-step (
       allows-reads.Asked,
@@ -327,7 +309,6 @@ candidate-search-element-copy-out-last-step :
     candidate-search-μ-loop
 candidate-search-element-copy-out-last-step t c = search needs
 
--- src/search.rt:96:79
 candidate-search-cast-last-step : (t : ℕ) → candidate-search-lts.Need-cast-last-step (
   allows-reads.Asked,
   allows-reads.Learnt,
@@ -340,7 +321,6 @@ candidate-search-cast-last-step : (t : ℕ) → candidate-search-lts.Need-cast-l
 ) (candidate-search-at t) candidate-search.Post candidate-search-Inv-loop candidate-search-μ-loop
 candidate-search-cast-last-step t c = search needs
 
--- src/search.rt:96:29
 candidate-search-last-step-requires : (t : ℕ) → candidate-search-lts.Need-last-step-requires (
   allows-reads.Asked,
   allows-reads.Learnt,
@@ -356,7 +336,6 @@ candidate-search-last-step-requires t c κs =
     let p = x .pre .1 .1 in
     (p .short, (x .pre .1 .0, omega (arith, p .parties, p .end)))
 
--- src/search.rt:99:45
 candidate-search-cast-f : (t : ℕ) → candidate-search-lts.Need-cast-f (
   allows-reads.Asked,
   allows-reads.Learnt,
@@ -369,7 +348,6 @@ candidate-search-cast-f : (t : ℕ) → candidate-search-lts.Need-cast-f (
 ) (candidate-search-at t) candidate-search.Post candidate-search-Inv-loop candidate-search-μ-loop
 candidate-search-cast-f t c = search needs
 
--- src/search.rt:99:35
 candidate-search-add-f : (t : ℕ) → candidate-search-lts.Need-add-f (
   allows-reads.Asked,
   allows-reads.Learnt,
@@ -382,7 +360,6 @@ candidate-search-add-f : (t : ℕ) → candidate-search-lts.Need-add-f (
 ) (candidate-search-at t) candidate-search.Post candidate-search-Inv-loop candidate-search-μ-loop
 candidate-search-add-f t c = search needs
 
--- src/search.rt:99:25
 candidate-search-element-write-f : (t : ℕ) → candidate-search-lts.Need-element-write-f (
   allows-reads.Asked,
   allows-reads.Learnt,
@@ -395,7 +372,6 @@ candidate-search-element-write-f : (t : ℕ) → candidate-search-lts.Need-eleme
 ) (candidate-search-at t) candidate-search.Post candidate-search-Inv-loop candidate-search-μ-loop
 candidate-search-element-write-f t c = search needs
 
--- src/search.rt:100:25
 candidate-search-returns : (t : ℕ) → candidate-search-lts.Need-returns (
   allows-reads.Asked,
   allows-reads.Learnt,
@@ -428,7 +404,6 @@ candidate-search-returns t c =
     rw (l .inv .1 ∙ onwards-hit (a .n) (a .t1) (a .visited) (a .u) (a .target) s xs (l .v) (l .v ∷ o .0) (c .before .before .before .before .before .before .before .before .loop-test .taken) q)
     (found-onto (a .at) (a .visited) (l .v) (o .0) (c .before .if4 .f) _ bound (rw (o .1) at h) (c .if5 .taken) refl refl)
 
--- src/search.rt:105:9
 candidate-search-add-v : (t : ℕ) → candidate-search-lts.Need-add-v (
   allows-reads.Asked,
   allows-reads.Learnt,
@@ -441,7 +416,6 @@ candidate-search-add-v : (t : ℕ) → candidate-search-lts.Need-add-v (
 ) (candidate-search-at t) candidate-search.Post candidate-search-Inv-loop candidate-search-μ-loop
 candidate-search-add-v t c = search needs
 
--- src/search.rt:85:5
 candidate-search-loop-less : (t : ℕ) → candidate-search-lts.Need-loop-less (
   allows-reads.Asked,
   allows-reads.Learnt,
@@ -454,7 +428,6 @@ candidate-search-loop-less : (t : ℕ) → candidate-search-lts.Need-loop-less (
 ) (candidate-search-at t) candidate-search.Post candidate-search-Inv-loop candidate-search-μ-loop
 candidate-search-loop-less t c = search needs
 
--- src/search.rt:85:5
 candidate-search-loop-again : (t : ℕ) → candidate-search-lts.Need-loop-again (
   allows-reads.Asked,
   allows-reads.Learnt,
@@ -492,7 +465,6 @@ candidate-search-loop-again t c =
     (c .if1 .came) in
     (omega (arith, c .before .loop-test .taken), l .inv .1 ∙ onwards-skip (a .n) (a .t1) (a .visited) (a .u) (a .target) s xs (l .v) (c .before .loop-test .taken) z)
 
--- src/search.rt:107:5
 candidate-search-none-requires-2 : (t : ℕ) → candidate-search-lts.Need-none-requires-2 (
   allows-reads.Asked,
   allows-reads.Learnt,
@@ -505,7 +477,6 @@ candidate-search-none-requires-2 : (t : ℕ) → candidate-search-lts.Need-none-
 ) (candidate-search-at t) candidate-search.Post candidate-search-Inv-loop candidate-search-μ-loop
 candidate-search-none-requires-2 t c κs = search needs
 
--- src/search.rt:78:1
 candidate-search-returns-2 : (t : ℕ) → candidate-search-lts.Need-returns-2 (
   allows-reads.Asked,
   allows-reads.Learnt,
@@ -521,7 +492,6 @@ candidate-search-returns-2 t c =
     let l = c .before .before .loop in
     found-none (a .at) (a .visited) _ _ (l .inv .1 ∙ onwards-end (a .n) (a .t1) (a .visited) (a .u) (a .target) (placeAt (a .w) (a .fixed) (a .at)) (placesFrom (a .w) (a .fixed) (a .at + 1)) (l .v) (c .before .loop-test .left)) (c .none2 .ensures)
 
--- src/search.rt:70:8
 party-search-add-if1 : (t : ℕ) → party-search-lts.Need-add-if1 (
   candidate-search-below t,
   candidate-search.Post,
@@ -530,7 +500,6 @@ party-search-add-if1 : (t : ℕ) → party-search-lts.Need-add-if1 (
 ) (party-search-at t) party-search.Post
 party-search-add-if1 t c = search needs
 
--- src/search.rt:71:9
 party-search-candidate-search-requires : (t : ℕ) → party-search-lts.Need-candidate-search-requires (
   candidate-search-below t,
   candidate-search.Post,
@@ -541,7 +510,6 @@ party-search-candidate-search-requires t c κs =
     let p = c .before .pre .1 in
     (omega (arith, c .before .pre .0), (c .if1 .taken, p))
 
--- src/search.rt:71:9
 party-search-returns : (t : ℕ) → party-search-lts.Need-returns (
   candidate-search-below t,
   candidate-search.Post,
@@ -551,7 +519,6 @@ party-search-returns : (t : ℕ) → party-search-lts.Need-returns (
 party-search-returns t c =
     c .candidate-search .ensures
 
--- src/search.rt:73:15
 party-search-mul-row : (t : ℕ) → party-search-lts.Need-mul-row (
   candidate-search-below t,
   candidate-search.Post,
@@ -560,7 +527,6 @@ party-search-mul-row : (t : ℕ) → party-search-lts.Need-mul-row (
 ) (party-search-at t) party-search.Post
 party-search-mul-row t c = search needs
 
--- src/search.rt:73:15
 party-search-element-copy-out-row : (t : ℕ) → party-search-lts.Need-element-copy-out-row (
   candidate-search-below t,
   candidate-search.Post,
@@ -569,7 +535,6 @@ party-search-element-copy-out-row : (t : ℕ) → party-search-lts.Need-element-
 ) (party-search-at t) party-search.Post
 party-search-element-copy-out-row t c = search needs
 
--- src/search.rt:74:29
 party-search-mul-last-step : (t : ℕ) → party-search-lts.Need-mul-last-step (
   candidate-search-below t,
   candidate-search.Post,
@@ -578,7 +543,6 @@ party-search-mul-last-step : (t : ℕ) → party-search-lts.Need-mul-last-step (
 ) (party-search-at t) party-search.Post
 party-search-mul-last-step t c = search needs
 
--- src/search.rt:74:29
 party-search-element-copy-out-last-step :
     (t : ℕ) → party-search-lts.Need-element-copy-out-last-step (
       candidate-search-below t,
@@ -588,7 +552,6 @@ party-search-element-copy-out-last-step :
     ) (party-search-at t) party-search.Post
 party-search-element-copy-out-last-step t c = search needs
 
--- src/search.rt:74:48
 party-search-cast-last-step : (t : ℕ) → party-search-lts.Need-cast-last-step (
   candidate-search-below t,
   candidate-search.Post,
@@ -597,7 +560,6 @@ party-search-cast-last-step : (t : ℕ) → party-search-lts.Need-cast-last-step
 ) (party-search-at t) party-search.Post
 party-search-cast-last-step t c = search needs
 
--- src/search.rt:74:5
 party-search-last-step-requires : (t : ℕ) → party-search-lts.Need-last-step-requires (
   candidate-search-below t,
   candidate-search.Post,
@@ -608,7 +570,6 @@ party-search-last-step-requires t c κs =
     let p = c .before .before .before .pre .1 in
     (p .short, (p .place, omega (arith, p .parties, p .end)))
 
--- src/search.rt:65:1
 party-search-returns-2 : (t : ℕ) → party-search-lts.Need-returns-2 (
   candidate-search-below t,
   candidate-search.Post,

@@ -8,34 +8,25 @@ use Rattle.paths.specs.Search.{placeOn, pickPlace}
 use borrow.Author.Needs.{needs}
 use Rattle.paths.proofs.search.allows.Statement.{statement}
 use Rattle.paths.proofs.search.allows.Tie as tie
-use Rattle.paths.proofs.search.allows.Reads as reads
-use Rattle.paths.proofs.search.allows.Lts as lts
 
--- src/search.rt:38:13
 element-copy-out-s : tie.Need-element-copy-out-s
 element-copy-out-s c = search needs
 
--- src/search.rt:40:25
 cast-result : tie.Need-cast-result
 cast-result c = search needs
 
--- src/search.rt:40:17
 shr-result : tie.Need-shr-result
 shr-result c = c .before .before .pre .0 .symbols _
 
--- src/search.rt:40:9
 returns : tie.Need-returns
 returns c = rw (lt-ltb _ _ (c .if1 .taken)) (test-code _ _)
 
--- src/search.rt:42:13
 cast-result-2 : tie.Need-cast-result-2
 cast-result-2 c = search needs
 
--- src/search.rt:42:5
 shr-result-2 : tie.Need-shr-result-2
 shr-result-2 c = c .before .before .pre .0 .symbols _
 
--- src/search.rt:34:1
 returns-2 : tie.Need-returns-2
 returns-2 c = rw (le-ltb _ _ (c .if1 .left))
 

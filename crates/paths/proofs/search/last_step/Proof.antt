@@ -19,36 +19,25 @@ use Rattle.paths.proofs.SearchLaws.{found-last, found-none}
 use borrow.Author.Needs.{needs}
 use Rattle.paths.proofs.search.last_step.Statement.{statement}
 use Rattle.paths.proofs.search.last_step.Tie as tie
-use Rattle.paths.proofs.search.last_step.Reads as reads
-use Rattle.paths.proofs.search.last_step.Lts as lts
-use Rattle.paths.proofs.search.allows.Reads as allows-reads
-use Rattle.paths.proofs.search.none.Reads as none-reads
 
--- src/search.rt:50:9
 shr-if1 : tie.Need-shr-if1
 shr-if1 c = search needs
 
--- src/search.rt:51:12
 allows-requires : tie.Need-allows-requires
 allows-requires c κs = search needs
 
--- src/search.rt:53:31
 cast-parties : tie.Need-cast-parties
 cast-parties c = search needs
 
--- src/search.rt:53:21
 add-parties : tie.Need-add-parties
 add-parties c = search needs
 
--- src/search.rt:53:13
 array-write-parties : tie.Need-array-write-parties
 array-write-parties c = search needs
 
--- src/search.rt:56:37
 shl-t16 : tie.Need-shl-t16
 shl-t16 c = search needs
 
--- src/search.rt:54:13
 returns : tie.Need-returns
 returns c =
     let a = c .before .before .before .args in
@@ -58,11 +47,9 @@ returns c =
     let r : Found = record { found = true; visited = bitOr (a .visited) (1 * 2 ^ a .target % 4294967296); parties = set (replicate 32 0) (a .at + 1) (a .target) } in
     rw (off, on) (found-last (a .at) (a .visited) (a .target) r refl (with-code 32 _ _ (c .before .before .before .pre .1 .1)) (length-set (replicate {A = ℕ} 32 0) (a .at + 1) (a .target)) (getD-set-same (replicate {A = ℕ} 32 0) (a .at + 1) (a .target) 0 (omega (arith, c .before .before .before .pre .1 .0))))
 
--- src/search.rt:61:5
 none-requires : tie.Need-none-requires
 none-requires c κs = search needs
 
--- src/search.rt:46:1
 returns-2 : tie.Need-returns-2
 returns-2 c =
     let a = c .before .before .args in

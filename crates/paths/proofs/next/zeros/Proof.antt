@@ -1,0 +1,17 @@
+-- Every symbol of a repeat of 0 is 0.
+use mathlib.Core.Path.{_≡_, refl, ap, _∙_}
+use Prim.Native.Nat.{ℕ}
+use native.Mathlib.Omega.{arith}
+use lib.ListN.{replicate, length-replicate}
+use Rattle.masks.proofs.TableLaws.{getD-zeros}
+use Rattle.paths.proofs.NextLaws.{take-zeros}
+use Rattle.paths.proofs.next.zeros.Statement.{statement}
+use Rattle.paths.proofs.next.zeros.Tie as tie
+
+returns : tie.Need-returns
+returns c =
+    let z = getD-zeros 31 in
+    (record { len = c .pre; full = refl; symbols = λ i. omega (arith, z i) }, (refl, take-zeros 31 (c .args .len) (c .pre)))
+
+pub zeros-spec : {M : Type 1} → statement M
+zeros-spec = tie.close (tie.spec returns)
