@@ -8,6 +8,7 @@ ghost use Rattle.masks.specs.Mask.{testBit};
 ghost use Rattle.masks.specs.Table.{maskIn, maskAt};
 ghost use Rattle.rebac.specs.Matter.{Matter};
 ghost use Rattle.rebac.specs.Symbols.{kinds, holds};
+ghost use Rattle.graph.specs.Legal.{isPair, legalSymbol};
 ghost use Rattle.graph.specs.Archive.{symbolIn, Records, LoadedAs};
 use house_file::Check;
 use house_file::Header;
@@ -32,7 +33,7 @@ pub struct Loading {
 }
 
 // Whether a language uses a kind.
-fn uses_kind(language: usize, kind: u32) -> bool
+pub fn uses_kind(language: usize, kind: u32) -> bool
     requires { ⌜ (language ≤ 3) × (kind < 4) ⌝ }
     ensures { λ r. ⌜ r ≡ member kind (kinds language) ⌝ }
 {
@@ -46,6 +47,29 @@ fn uses_kind(language: usize, kind: u32) -> bool
         return kind % 2 == 0;
     }
     true
+}
+
+// Whether two parties are a pair of n parties.
+pub fn is_pair(n: usize, first: usize, second: usize) -> bool
+    ensures { λ r. ⌜ r ≡ isPair n first second ⌝ }
+{
+    if first < n {
+        if second < n {
+            return first != second;
+        }
+    }
+    false
+}
+
+// Whether a symbol is the language's and its label below L.
+pub fn legal_symbol(labels: usize, language: usize, s: u8) -> bool
+    requires { ⌜ language ≤ 3 ⌝ }
+    ensures { λ r. ⌜ r ≡ legalSymbol labels language s ⌝ }
+{
+    if ((s / 4) as usize) < labels {
+        return uses_kind(language, (s % 4) as u32);
+    }
+    false
 }
 
 // Whether a symbol of the language holds, by the labels out and back.

@@ -1,3 +1,4 @@
 pub mod SearchLaws
 pub mod AskLaws
 pub mod NextLaws
+pub mod CallLaws

@@ -13,4 +13,4 @@ symbolsIn w = take (w .len) (w .symbols)
 pub record Short (w : Word) : Type 0 where
   pub len : w .len ≤ 31
   pub full : length (w .symbols) ≡ 31
-  pub symbols : (i : ℕ) → getD (w .symbols) i 0 < 32
+  pub symbols : (i : ℕ) → i < w .len → getD (w .symbols) i 0 < 32

@@ -20,9 +20,9 @@ returns c =
       record {
         len = c .pre .1 .1 .len;
         full = length-set (a .t1 .symbols) (a .at) (a .s) ∙ n;
-        symbols = λ i. by-cases (ℕ-discrete i (a .at))
+        symbols = λ i h. by-cases (ℕ-discrete i (a .at))
             (λ q. rw (q, getD-set-same (a .t1 .symbols) (a .at) (a .s) 0 (omega arith)) (c .pre .1 .0))
-            (λ q. rw (getD-set-other (a .t1 .symbols) (a .at) i (a .s) 0 q) (c .pre .1 .1 .symbols i));
+            (λ q. rw (getD-set-other (a .t1 .symbols) (a .at) i (a .s) 0 q) (c .pre .1 .1 .symbols i h));
       },
       (refl, refl),
     )

@@ -11,7 +11,7 @@ use Rattle.paths.proofs.next.zeros.Tie as tie
 returns : tie.Need-returns
 returns c =
     let z = getD-zeros 31 in
-    (record { len = c .pre; full = refl; symbols = λ i. omega (arith, z i) }, (refl, take-zeros 31 (c .args .len) (c .pre)))
+    (record { len = c .pre; full = refl; symbols = λ i h. omega (arith, z i) }, (refl, take-zeros 31 (c .args .len) (c .pre)))
 
 pub zeros-spec : {M : Type 1} → statement M
 zeros-spec = tie.close (tie.spec returns)

@@ -16,7 +16,7 @@ cast-result : tie.Need-cast-result
 cast-result c = search needs
 
 shr-result : tie.Need-shr-result
-shr-result c = c .before .before .pre .0 .symbols _
+shr-result c = c .before .before .pre .0 .symbols _ (c .before .before .pre .1)
 
 returns : tie.Need-returns
 returns c = rw (lt-ltb _ _ (c .if1 .taken)) (test-code _ _)
@@ -25,7 +25,7 @@ cast-result-2 : tie.Need-cast-result-2
 cast-result-2 c = search needs
 
 shr-result-2 : tie.Need-shr-result-2
-shr-result-2 c = c .before .before .pre .0 .symbols _
+shr-result-2 c = c .before .before .pre .0 .symbols _ (c .before .before .pre .1)
 
 returns-2 : tie.Need-returns-2
 returns-2 c = rw (le-ltb _ _ (c .if1 .left))

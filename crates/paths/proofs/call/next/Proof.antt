@@ -1,0 +1,56 @@
+-- The file's refusals come first; an accepted file stands for its matter.
+use mathlib.Core.Path.{_≡_, refl, sym, ap, _∙_}
+use lib.ListN.{length}
+use Rattle.house_file.specs.Check.{checkOf}
+use Rattle.house_file.specs.declared.reply.Check.the-variants.{Accepted, Refused}
+use Rattle.graph.specs.Archive.{matterOf, Shows}
+use Rattle.paths.specs.Calls.{Answer, refuses, replyOf, outputOf, nextIn, nextCall}
+use borrow.Author.Needs.{needs}
+use Rattle.paths.proofs.call.next.Statement.{statement}
+use Rattle.paths.proofs.call.next.Tie as tie
+
+accepted : (c : tie.After-enum-told) → checkOf (c .before .before .before .before .before .args .file .now) ≡ Accepted
+accepted c = sym (c .before .before .load .ensures .reply) ∙ c .enum-told .given .1
+
+shown : (c : tie.After-enum-told) → Shows (matterOf (c .before .before .before .before .before .args .file .now)) (c .before .before .load .result .archive)
+shown c = c .before .before .load .ensures .archive (accepted c)
+
+load-requires : tie.Need-load-requires
+load-requires c κs = search needs
+
+enum-known-reply : tie.Need-enum-known-reply
+enum-known-reply c = search needs
+
+enum-told : tie.Need-enum-told
+enum-told c = search needs
+
+next-in-requires : tie.Need-next-in-requires
+next-in-requires c κs = (matterOf (c .before .before .before .before .before .before .before .args .file .now), shown (c .before .before))
+
+returns : tie.Need-returns
+unfolding nextCall
+returns c =
+    let e = sym (c .before .before .before .load .ensures .reply) ∙ c .before .reply .given .1 in
+    rw e (refl, refl)
+
+same-length : tie.Need-same-length
+same-length c = search needs
+
+returns-2 : tie.Need-returns-2
+unfolding nextCall
+returns-2 c =
+    let e = accepted (c .before .before .before .before .before) in
+    let q = c .before .before .next-in .ensures (matterOf (c .before .before .before .before .before .before .before .before .before .before .args .file .now)) (shown (c .before .before .before .before .before)) in
+    rw e q
+
+pub next-spec : {M : Type 1} → statement M
+next-spec =
+    tie.close
+    (tie.spec
+    load-requires
+    enum-known-reply
+    enum-told
+    next-in-requires
+    returns
+    same-length
+    returns-2)

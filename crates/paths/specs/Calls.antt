@@ -1,0 +1,80 @@
+-- The path and next-word calls (01, "The calls"): what each answers and writes, for any bytes, parties, word and output.
+use Prim.Native.Nat.{ℕ, _+_}
+use mathlib.Core.Bool.{Bool, true, false, not, _&&_, _||_}
+use mathlib.Core.List.{List, _++_}
+use mathlib.Core.Option.{Option, none, some}
+use lib.ListN.{length, drop}
+use lib.Dec.{eqb, ltb, leb}
+use Rattle.lists.specs.Lists.{allOf}
+use Rattle.rebac.specs.Matter.{Matter, pair}
+use Rattle.rebac.specs.Paths.{leastPath}
+use Rattle.rebac.specs.Symbols.{enlarged}
+use Rattle.rebac.specs.NextWord.{nextWord}
+use Rattle.house_file.specs.Check.{checkOf}
+use Rattle.house_file.specs.declared.reply.Check.{Check}
+use Rattle.house_file.specs.declared.reply.Check.the-variants as check
+use Rattle.house_file.specs.declared.reply.Refusal.{Refusal}
+use Rattle.house_file.specs.declared.reply.Refusal.the-variants.{PartyPair, GivenWord, Output}
+use Rattle.graph.specs.Archive.{matterOf}
+use Rattle.graph.specs.Legal.{isPair, legalSymbol}
+use Rattle.paths.specs.Word.{symbolsIn}
+use Rattle.paths.specs.declared.word.Word.{Word}
+use Rattle.paths.specs.declared.call.Reply.{Reply}
+use Rattle.paths.specs.declared.call.Reply.the-variants.{Refused, Nothing, Wrote}
+
+-- what a call answers: a refusal, that there is nothing, or the bytes that it writes
+pub data Answer : Type 0 where
+  refuses : Refusal → Answer
+  nothing : Answer
+  writes : List ℕ → Answer
+
+-- the reply: of what is written, the number of bytes
+abbrev pub replyOf : Answer → Reply
+replyOf (refuses x) = Refused x
+replyOf nothing = Nothing
+replyOf (writes l) = Wrote (length l)
+
+-- the output then: what is written stands at its start, every other byte is kept
+abbrev pub outputOf : Answer → List ℕ → List ℕ
+outputOf (refuses x) old = old
+outputOf nothing old = old
+outputOf (writes l) old = l ++ drop (length l) old
+
+abbrev pub unless : Bool → Refusal → Answer → Answer
+unless true x k = k
+unless false x k = refuses x
+
+abbrev pub found : Option (List ℕ) → Answer
+found none = nothing
+found (some l) = writes l
+
+-- not 11: at most D symbols, each of the language and with a label below L
+unfoldable pub legalWord : Matter → Word → Bool
+legalWord M w = leb (w .len) (M .longest) && allOf (legalSymbol (M .labels) (M .language)) (symbolsIn w)
+
+-- Path: 10, 11 (also the empty word), 14 by the word's length, then the path with the lower party at the first difference
+unfoldable pub pathIn : Matter → ℕ → ℕ → Word → ℕ → Answer
+pathIn M a b w size =
+    unless (isPair (M .parties) a b) PartyPair
+    (unless (legalWord M w && not (eqb (w .len) 0)) GivenWord
+    (unless (leb (w .len + 1) size) Output
+    (found (leastPath (enlarged M) (pair a b) (symbolsIn w)))))
+
+-- Next-word: 10, 11, 14 below 31 bytes, then the pair's first word after the given one
+unfoldable pub nextIn : Matter → ℕ → ℕ → Word → ℕ → Answer
+nextIn M a b w size =
+    unless (isPair (M .parties) a b) PartyPair
+    (unless (legalWord M w) GivenWord
+    (unless (leb 31 size) Output
+    (found (nextWord M (pair a b) (symbolsIn w)))))
+
+-- the file's refusals come first
+abbrev pub afterCheck : Check → Answer → Answer
+afterCheck check.Accepted k = k
+afterCheck (check.Refused x) k = refuses x
+
+unfoldable pub pathCall : List ℕ → ℕ → ℕ → Word → ℕ → Answer
+pathCall f a b w size = afterCheck (checkOf f) (pathIn (matterOf f) a b w size)
+
+unfoldable pub nextCall : List ℕ → ℕ → ℕ → Word → ℕ → Answer
+nextCall f a b w size = afterCheck (checkOf f) (nextIn (matterOf f) a b w size)

@@ -1,0 +1,132 @@
+// 01's path and next-word calls: file, pair, word and lent output in, any of them wrong or right.
+ghost use mathlib.Core.Path.{_≡_};
+ghost use mathlib.Core.Bool.{_&&_};
+ghost use Prim.Native.Nat.{ℕ, _≤_};
+ghost use lib.ListN.{length};
+ghost use lib.Dec.{leb};
+ghost use Rattle.lists.specs.Lists.{allOf};
+ghost use Rattle.rebac.specs.Matter.{Matter};
+ghost use Rattle.graph.specs.Archive.{Shows};
+ghost use Rattle.graph.specs.Legal.{legalSymbol};
+ghost use Rattle.paths.specs.Word.{symbolsIn};
+ghost use Rattle.paths.specs.Calls.{Answer, replyOf, outputOf, legalWord, pathIn, nextIn, pathCall, nextCall};
+use crate::ask::search_pair;
+use crate::next::next_word;
+use crate::word::Word;
+use graph::Archive;
+use house_file::Check;
+use house_file::Refusal;
+
+// What both calls reply: refused, nothing to write, or the number of bytes written.
+pub enum Reply {
+    Refused(Refusal),
+    Nothing,
+    Wrote(usize),
+}
+
+// Whether the word has at most D symbols, each of the language and with a label below L.
+fn legal_word(labels: usize, language: usize, longest: usize, w: Word) -> bool
+    requires { ⌜ (language ≤ 3) × (longest ≤ 31) ⌝ }
+    ensures { λ r. ⌜ r ≡ (leb (w .len) longest && allOf (legalSymbol labels language) (symbolsIn w)) ⌝ }
+{
+    let len = w.len;
+    if longest < len {
+        return false;
+    }
+    let mut i = 0;
+    while i < len {
+        if !graph::legal_symbol(labels, language, w.symbols[i]) {
+            return false;
+        }
+        i += 1;
+    }
+    true
+}
+
+// The path call for an accepted file. The ones of the visited mask number the path's parties.
+fn path_in(a: Archive, first: usize, second: usize, w: Word, out: &mut [u8]) -> Reply
+    requires { ⌜ ((M : Matter) × Shows M a) ⌝ }
+    ensures { λ r. ⌜ ((M : Matter) → Shows M a → (r ≡ replyOf (pathIn M first second w (length (now (out .entry))))) × (now (out .exit) ≡ outputOf (pathIn M first second w (length (now (out .entry)))) (now (out .entry)))) ⌝ }
+{
+    let n = a.parties;
+    if !graph::is_pair(n, first, second) {
+        return Reply::Refused(Refusal::PartyPair);
+    }
+    if !legal_word(a.labels, a.language, a.longest, w) {
+        return Reply::Refused(Refusal::GivenWord);
+    }
+    let len = w.len;
+    if len == 0 {
+        return Reply::Refused(Refusal::GivenWord);
+    }
+    if out.len() < len + 1 {
+        return Reply::Refused(Refusal::Output);
+    }
+    let g = a.graph;
+    let f = search_pair(g, n, first, second, w, len);
+    if f.found {
+        let mut parties = f.parties;
+        parties[0] = first as u8;
+        let count = u32::count_ones(f.visited) as usize;
+        bytes::copy(&parties[..count], out);
+        return Reply::Wrote(count);
+    }
+    Reply::Nothing
+}
+
+// The next-word call for an accepted file.
+fn next_in(a: Archive, first: usize, second: usize, w: Word, out: &mut [u8]) -> Reply
+    requires { ⌜ ((M : Matter) × Shows M a) ⌝ }
+    ensures { λ r. ⌜ ((M : Matter) → Shows M a → (r ≡ replyOf (nextIn M first second w (length (now (out .entry))))) × (now (out .exit) ≡ outputOf (nextIn M first second w (length (now (out .entry)))) (now (out .entry)))) ⌝ }
+{
+    let n = a.parties;
+    if !graph::is_pair(n, first, second) {
+        return Reply::Refused(Refusal::PartyPair);
+    }
+    if !legal_word(a.labels, a.language, a.longest, w) {
+        return Reply::Refused(Refusal::GivenWord);
+    }
+    if out.len() < 31 {
+        return Reply::Refused(Refusal::Output);
+    }
+    let g = a.graph;
+    let c = next_word(g, n, first, second, a.longest, w);
+    if c.found {
+        let v = c.word;
+        let len = v.len;
+        let symbols = v.symbols;
+        bytes::copy(&symbols[..len], out);
+        return Reply::Wrote(len);
+    }
+    Reply::Nothing
+}
+
+// Writes the parties of the pair's path with the word.
+pub fn path(file: &[u8], first: usize, second: usize, w: Word, out: &mut [u8]) -> Reply
+    ensures { λ r. ⌜ (r ≡ replyOf (pathCall (now (file .entry)) first second w (length (now (out .entry))))) × (now (out .exit) ≡ outputOf (pathCall (now (file .entry)) first second w (length (now (out .entry)))) (now (out .entry))) ⌝ }
+{
+    let r = graph::load(file);
+    let reply = r.reply;
+    match reply {
+        Check::Refused(e) => Reply::Refused(e),
+        Check::Accepted => {
+            let a = r.archive;
+            path_in(a, first, second, w, out)
+        }
+    }
+}
+
+// Writes the pair's first word after the given one.
+pub fn next(file: &[u8], first: usize, second: usize, w: Word, out: &mut [u8]) -> Reply
+    ensures { λ r. ⌜ (r ≡ replyOf (nextCall (now (file .entry)) first second w (length (now (out .entry))))) × (now (out .exit) ≡ outputOf (nextCall (now (file .entry)) first second w (length (now (out .entry)))) (now (out .entry))) ⌝ }
+{
+    let r = graph::load(file);
+    let reply = r.reply;
+    match reply {
+        Check::Refused(e) => Reply::Refused(e),
+        Check::Accepted => {
+            let a = r.archive;
+            next_in(a, first, second, w, out)
+        }
+    }
+}
