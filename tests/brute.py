@@ -153,14 +153,19 @@ def holds(house, u, v, symbol):
     return (v, u, label) not in house.edges
 
 
-def all_paths(house, u, v):
+def enlarged(house):
+    """The enlarged graph: for each pair the symbols that hold, lower first."""
+    return {(u, v): [s for s in symbols(house) if holds(house, u, v, s)] for u, v in pairs(house)}
+
+
+def all_paths(house, u, v, graph=None):
     """Every path from u to v of at most D symbols, as (parties, word)."""
     found = []
-    extend(house, (u,), (), v, found)
+    extend(house, graph or enlarged(house), (u,), (), v, found)
     return found
 
 
-def extend(house, parties, word, goal, found):
+def extend(house, graph, parties, word, goal, found):
     """Add to found every path to goal that begins with these parties and symbols."""
     if parties[-1] == goal:
         found.append((parties, word))
@@ -169,9 +174,8 @@ def extend(house, parties, word, goal, found):
         return
     for party in range(house.n):
         if party not in parties:
-            for symbol in symbols(house):
-                if holds(house, parties[-1], party, symbol):
-                    extend(house, parties + (party,), word + (symbol,), goal, found)
+            for symbol in graph[(parties[-1], party)]:
+                extend(house, graph, parties + (party,), word + (symbol,), goal, found)
 
 
 def word_key(word):
@@ -201,6 +205,29 @@ def next_word(house, u, v, word):
         if word_key(candidate) > word_key(word):
             return candidate
     return None
+
+
+class Known:
+    """A file's check, its house, and the words of its pairs, each reckoned once."""
+
+    def __init__(self, data):
+        self.refusal = check(data)
+        self.house = None if self.refusal else decode(data)
+        self.graph = None if self.refusal else enlarged(self.house)
+        self.tables = {}
+
+    def least_paths(self, u, v):
+        """A dictionary from the pair's words, in word order, to the least path of each."""
+        if (u, v) not in self.tables:
+            least = {}
+            for parties, word in all_paths(self.house, u, v, self.graph):
+                least[word] = min(parties, least.get(word, parties))
+            self.tables[(u, v)] = {word: least[word] for word in sorted(least, key=word_key)}
+        return self.tables[(u, v)]
+
+    def words(self, u, v):
+        """The pair's words in word order."""
+        return list(self.least_paths(u, v))
 
 
 # ------------------------------------------------------- terms and rule lists
@@ -373,17 +400,20 @@ def bad_word(house, word):
 
 def call_path(data, u, v, word, output):
     """The reply and output afterwards."""
-    number = check(data)
-    if number:
-        return ("refused", number), output
-    house = decode(data)
-    if not is_pair(house, u, v):
+    return path_reply(Known(data), u, v, word, output)
+
+
+def path_reply(known, u, v, word, output):
+    """The same for a file of which something is known."""
+    if known.refusal:
+        return ("refused", known.refusal), output
+    if not is_pair(known.house, u, v):
         return ("refused", 10), output
-    if len(word) == 0 or bad_word(house, word):
+    if len(word) == 0 or bad_word(known.house, word):
         return ("refused", 11), output
     if len(output) < len(word) + 1:
         return ("refused", 14), output
-    parties = least_path(house, u, v, word)
+    parties = known.least_paths(u, v).get(tuple(word))
     if parties is None:
         return ("lacks",), output
     return ("parties", len(parties)), written_over(output, parties)
@@ -391,20 +421,24 @@ def call_path(data, u, v, word, output):
 
 def call_next_word(data, u, v, word, output):
     """The reply and output afterwards."""
-    number = check(data)
-    if number:
-        return ("refused", number), output
-    house = decode(data)
-    if not is_pair(house, u, v):
+    return next_word_reply(Known(data), u, v, word, output)
+
+
+def next_word_reply(known, u, v, word, output):
+    """The same for a file of which something is known."""
+    if known.refusal:
+        return ("refused", known.refusal), output
+    if not is_pair(known.house, u, v):
         return ("refused", 10), output
-    if bad_word(house, word):
+    if bad_word(known.house, word):
         return ("refused", 11), output
     if len(output) < NEXT_WORD_ROOM:
         return ("refused", 14), output
-    following = next_word(house, u, v, word)
-    if following is None:
-        return ("none",), output
-    return ("length", len(following)), written_over(output, following)
+    after = word_key(word)
+    for candidate in known.least_paths(u, v):
+        if word_key(candidate) > after:
+            return ("length", len(candidate)), written_over(output, candidate)
+    return ("none",), output
 
 
 def call_permit(data, listed, u, v):

@@ -10,21 +10,15 @@ that are not met. The exit status is 0 only where M is 0.
 
 import os
 import random
-import subprocess
 import sys
-import tempfile
 
 import brute
+import comparing
 import files
 import script
 
 FEWEST_FILES = 20000
 FEWEST_OF_EACH = 200
-FRAMES_IN_BATCH = 5000
-SECONDS_FOR_BATCH = 120
-DIFFERENCES_SHOWN = 5
-HEX_SHOWN = 160
-LINES_SHOWN = 4
 
 
 # ------------------------------------------------------------------ the files
@@ -151,106 +145,28 @@ def only_fault(data, at, mended):
     return not brute.header_in_range(data) and brute.header_in_range(mended_data)
 
 
-# -------------------------------------------------- running and comparing
-
-def run_batch(binary, folder, number, frames):
-    """Run the binary on some frames. Returns expected texts, its output, and a fault or None."""
-    texts = [script.expected(call, data) for call, data in frames]
-    paths = [os.path.join(folder, "%s.%d" % (name, number))
-             for name in ("script", "expected", "actual")]
-    with open(paths[0], "wb") as out:
-        out.writelines(script.frame(call, data) for call, data in frames)
-    with open(paths[1], "wb") as out:
-        out.write("".join(texts).encode("ascii"))
-    fault = None
-    with open(paths[0], "rb") as stdin, open(paths[2], "wb") as stdout:
-        try:
-            status = subprocess.run([binary], stdin=stdin, stdout=stdout,
-                                    timeout=SECONDS_FOR_BATCH).returncode
-            if status != 0:
-                fault = "the program ended with status %d" % status
-        except subprocess.TimeoutExpired:
-            fault = "the program did not end within %d seconds" % SECONDS_FOR_BATCH
-        except OSError as error:
-            fault = "the program could not be started: %s" % error
-    with open(paths[2], "rb") as actual:
-        return texts, actual.read().decode("latin-1"), fault
-
-
-def replies_of(output):
-    """The output cut into replies; each begins with a line of check or decode."""
-    replies = []
-    for line in output.splitlines(keepends=True):
-        if line.startswith(("check ", "decode ")) or not replies:
-            replies.append([])
-        replies[-1].append(line)
-    return ["".join(lines) for lines in replies]
-
-
-def compare(frames, texts, output):
-    """The numbers of the frames that differ, and the reply found for each frame."""
-    replies = replies_of(output)
-    found = replies[:len(frames)] + [""] * (len(frames) - len(replies))
-    differing = [i for i in range(len(frames)) if found[i] != texts[i]]
-    return differing, found, len(replies) - len(frames)
-
-
-def show_difference(call, data, text, found):
-    hexadecimal = data[:HEX_SHOWN].hex(" ").upper()
-    more = " ... (%d bytes)" % len(data) if len(data) > HEX_SHOWN else ""
-    print("difference in call %s" % call)
-    print("  file: %s%s" % (hexadecimal, more))
-    wanted_lines, found_lines = text.splitlines(), found.splitlines()
-    shown = 0
-    for i in range(max(len(wanted_lines), len(found_lines))):
-        wanted = wanted_lines[i] if i < len(wanted_lines) else "(no line)"
-        got = found_lines[i] if i < len(found_lines) else "(no line)"
-        if wanted != got and shown < LINES_SHOWN:
-            print("  line %d expected: %s" % (i + 1, wanted))
-            print("  line %d printed:  %s" % (i + 1, got[:400]))
-            shown += 1
-    if shown == 0:
-        print("  the line ends differ")
-
+# ------------------------------------------------------------------- the run
 
 def main(arguments):
+    tally = comparing.Tally()
     if len(arguments) != 2:
-        print("usage: run_cases.py PATH_OF_CASES_BINARY")
-        print("0 passed, 1 failed")
-        return 1
-    binary = os.path.abspath(arguments[1])
+        tally.fault("usage: run_cases.py PATH_OF_CASES_BINARY")
+        return tally.close()
     frames = make_frames()
     account = Account()
     for call, data in frames:
         if call == script.CHECK:
             account.count(data)
-    passed, failed, shown = 0, 0, 0
-    with tempfile.TemporaryDirectory() as folder:
-        for number, start in enumerate(range(0, len(frames), FRAMES_IN_BATCH)):
-            batch = frames[start:start + FRAMES_IN_BATCH]
-            texts, output, fault = run_batch(binary, folder, number, batch)
-            differing, found, excess = compare(batch, texts, output)
-            passed += len(batch) - len(differing)
-            failed += len(differing)
-            for i in differing:
-                if shown < DIFFERENCES_SHOWN:
-                    show_difference(batch[i][0], batch[i][1], texts[i], found[i])
-                    shown += 1
-            if excess > 0:
-                print("batch %d: %d replies more than frames" % (number, excess))
-                failed += excess
-            if fault is not None:
-                print("batch %d: %s" % (number, fault))
-                failed += 1
+    cases = [script.Case(script.frame(call, data), script.expected(call, data))
+             for call, data in frames]
+    comparing.run(os.path.abspath(arguments[1]), cases, tally)
     checks = sum(1 for call, _ in frames if call == script.CHECK)
     print("%d different files, %d frames: %d of check, %d of decode" % (
         len(account.different), len(frames), checks, len(frames) - checks))
     print(account.text())
     for line in account.lacking():
-        print(line)
-        failed += 1
-    print("%d passed, %d failed" % (passed, failed))
-    return 0 if failed == 0 and passed == len(frames) else 1
+        tally.fault(line)
+    return tally.close()
 
 
 if __name__ == "__main__":

@@ -5,26 +5,84 @@ first party, second party, 00, and five unsigned 32-bit numbers, low byte first:
 length of the file, of the given bytes (a word or a rule list), of the output,
 of the scratch, and 0. Then follow the file, the given bytes, the output's old
 bytes and the scratch's old bytes.
+
+For path and next-word the given bytes are 32: the word's length, then 31
+symbols, of which those past the length mean nothing. 16 guard bytes stand
+before the output's old bytes and 16 after them; they aren't counted in the
+output's length and aren't lent. The reply's second line has all of these bytes
+after the call.
 """
 
 import struct
+from collections import namedtuple
 
 import brute
 
 LONGEST_FILE_IN_FRAME = 60000
+LONGEST_OUTPUT = 100
+GUARD = 16
+SYMBOLS_GIVEN = 31
 
 CHECK = "c"
 DECODE = "d"
+PATH = "p"
+NEXT_WORD = "n"
+
+# Each reply begins with a line that begins with one of these.
+NAMES = {CHECK: "check", DECODE: "decode", PATH: "path", NEXT_WORD: "next-word"}
+
+# A frame's bytes, and the lines that are its reply.
+Case = namedtuple("Case", "frame text")
+
+# What stands in a frame; output has its guards with it.
+Parts = namedtuple("Parts", "call first second data given output scratch")
 
 
-def frame(call, data, first=0, second=0, given=b"", output=b"", scratch=b""):
-    """The bytes of one frame."""
+# -------------------------------------------------------------------- frames
+
+def frame(call, data, first=0, second=0, given=b"", output=b"", scratch=b"", guard=0):
+    """The bytes of one frame. Of output, this many bytes at each end are guards."""
     if len(data) > LONGEST_FILE_IN_FRAME:
         raise ValueError("file too long for a frame")
     header = struct.pack("<cBBBIIIII", call.encode("ascii"), first, second, 0,
-                         len(data), len(given), len(output), len(scratch), 0)
+                         len(data), len(given), len(output) - 2 * guard, len(scratch), 0)
     return header + bytes(data) + bytes(given) + bytes(output) + bytes(scratch)
 
+
+def word_frame(call, data, first, second, given, output):
+    """The frame of a path or next-word call; output has its guards with it."""
+    if len(given) != 1 + SYMBOLS_GIVEN or not 0 <= len(output) - 2 * GUARD <= LONGEST_OUTPUT:
+        raise ValueError("not a frame of path or next-word")
+    return frame(call, data, first, second, given, output, guard=GUARD)
+
+
+def parts_of(frame_bytes):
+    """A frame taken apart."""
+    call, first, second, _, *lengths, _ = struct.unpack("<cBBBIIIII", frame_bytes[:24])
+    call = call.decode("ascii")
+    if call in (PATH, NEXT_WORD):
+        lengths[2] += 2 * GUARD
+    rest, pieces = frame_bytes[24:], []
+    for length in lengths:
+        pieces.append(rest[:length])
+        rest = rest[length:]
+    return Parts(call, first, second, *pieces)
+
+
+def given_bytes(length, symbols):
+    """The given bytes of a word: its length, and 31 symbols."""
+    if len(symbols) != SYMBOLS_GIVEN:
+        raise ValueError("31 symbols are given")
+    return bytes([length]) + bytes(symbols)
+
+
+def word_of(given):
+    """The word that given bytes mean. Past 31 symbols nothing but the length matters."""
+    length = given[0]
+    return tuple(given[1:1 + length]) + (0,) * (length - SYMBOLS_GIVEN)
+
+
+# ------------------------------------------------------------ expected lines
 
 def check_text(data):
     """What check prints for this file."""
@@ -62,5 +120,26 @@ TEXTS = {CHECK: check_text, DECODE: decode_text}
 
 
 def expected(call, data):
-    """What the call prints for this file."""
+    """What check or decode prints for this file."""
     return TEXTS[call](data)
+
+
+REPLIES = {PATH: brute.path_reply, NEXT_WORD: brute.next_word_reply}
+
+
+def word_reply(call, known, first, second, given, output):
+    """The reply of path or next-word, and output with its guards afterwards."""
+    lent = output[GUARD:-GUARD]
+    reply, after = REPLIES[call](known, first, second, word_of(given), lent)
+    return reply, output[:GUARD] + after + output[-GUARD:]
+
+
+def word_text(call, reply, after):
+    """The two lines of path or next-word for this reply and output with its guards."""
+    if reply[0] == "refused":
+        answer = "refused %d" % reply[1]
+    elif reply in (("lacks",), ("none",)):
+        answer = "none"
+    else:
+        answer = "%d" % reply[1]
+    return "%s %s\noutput %s\n" % (NAMES[call], answer, after.hex().upper())

@@ -3,14 +3,20 @@
     python3 -m unittest discover -s tests        (or: python3 tests/test_brute.py)
 """
 
+import contextlib
+import io
 import itertools
+import os
 import random
 import struct
+import tempfile
 import unittest
 
 import brute
+import comparing
 import files
-import run_cases
+import large
+import run_paths
 import script
 import stored
 
@@ -587,6 +593,35 @@ class SecondReckonings(unittest.TestCase):
                 for word in rng.sample(sorted(other), min(3, len(other))):
                     self.assertEqual(brute.least_path(house, u, v, word), other[word])
 
+    def test_calls_agree_with_the_definitions(self):
+        # The calls go through the words that are kept for a file; least_path and next_word don't.
+        rng = random.Random(16)
+        for _ in range(150):
+            matter = small_matter(rng)
+            data = files.lay_out(matter, rng).bytes()
+            house, known = brute.decode(data), brute.Known(data)
+            for pair in rng.sample(brute.pairs(house), min(3, len(brute.pairs(house)))):
+                self.assertEqual(known.words(*pair), brute.words(house, *pair))
+                for word in self.words_to_ask(rng, house, known.words(*pair)):
+                    self.agrees(data, house, pair, word)
+
+    def words_to_ask(self, rng, house, listed):
+        """Words of the pair, and legal words at random."""
+        legal = [tuple(rng.choices(brute.symbols(house), k=rng.randint(1, house.longest)))
+                 for _ in range(3)]
+        return rng.sample(listed, min(3, len(listed))) + legal
+
+    def agrees(self, data, house, pair, word):
+        output = b"\xAA" * 40
+        parties = brute.least_path(house, *pair, word)
+        wanted = (("lacks",), output) if parties is None else \
+            (("parties", len(parties)), bytes(parties) + output[len(parties):])
+        self.assertEqual(brute.call_path(data, *pair, word, output), wanted)
+        following = brute.next_word(house, *pair, word)
+        wanted = (("none",), output) if following is None else \
+            (("length", len(following)), bytes(following) + output[len(following):])
+        self.assertEqual(brute.call_next_word(data, *pair, word, output), wanted)
+
     def test_verdicts(self):
         rng = random.Random(12)
         kinds = {"convertible": 0, "no-word": 0, "rival": 0}
@@ -727,11 +762,194 @@ class Script(unittest.TestCase):
         frames = [("c", case_file("A")), ("d", case_file("A")), ("c", b"")]
         texts = [script.expected(call, data) for call, data in frames]
         whole = "".join(texts)
-        self.assertEqual(run_cases.compare(frames, texts, whole)[0], [])
-        self.assertEqual(run_cases.compare(frames, texts, "")[0], [0, 1, 2])
-        self.assertEqual(run_cases.compare(frames, texts, texts[0])[0], [1, 2])
-        self.assertEqual(run_cases.compare(frames, texts, whole[:-1])[0], [2])
-        self.assertEqual(run_cases.compare(frames, texts, whole + "check accepted\n")[2], 1)
+        self.assertEqual(comparing.compare(texts, whole)[0], [])
+        self.assertEqual(comparing.compare(texts, "")[0], [0, 1, 2])
+        self.assertEqual(comparing.compare(texts, texts[0])[0], [1, 2])
+        self.assertEqual(comparing.compare(texts, whole[:-1])[0], [2])
+        self.assertEqual(comparing.compare(texts, whole + "check accepted\n")[2], 1)
+
+
+class WordCalls(unittest.TestCase):
+    """Frames and lines of path and next-word."""
+
+    BEFORE, AFTER = bytes(range(0xA0, 0xB0)), bytes(range(0xC0, 0xD0))
+    BEFORE_TEXT, AFTER_TEXT = "A0A1A2A3A4A5A6A7A8A9AAABACADAEAF", "C0C1C2C3C4C5C6C7C8C9CACBCCCDCECF"
+
+    def given(self, *word):
+        """The given bytes of a word, with symbols after it that are none."""
+        return script.given_bytes(len(word), bytes(word) + b"\xEE" * (31 - len(word)))
+
+    def text(self, call, letter, first, second, given, lent):
+        output = self.BEFORE + lent + self.AFTER
+        known = brute.Known(case_file(letter))
+        return script.word_text(call, *script.word_reply(call, known, first, second, given, output))
+
+    def lines(self, answer, lent):
+        return "%s\noutput %s%s%s\n" % (answer, self.BEFORE_TEXT, lent, self.AFTER_TEXT)
+
+    def test_a_frame_by_hand(self):
+        given = self.given(0, 4)
+        made = script.word_frame("n", b"\x11\x12", 3, 4, given, self.BEFORE + b"\x13" + self.AFTER)
+        wanted = hexadecimal("6E 03 04 00  02 00 00 00  20 00 00 00  01 00 00 00  00 00 00 00"
+                             "  00 00 00 00  11 12  02 00 04" + 29 * " EE")
+        self.assertEqual(made, wanted + self.BEFORE + b"\x13" + self.AFTER)
+        self.assertEqual(script.parts_of(made),
+                         ("n", 3, 4, b"\x11\x12", given, self.BEFORE + b"\x13" + self.AFTER, b""))
+
+    def test_given_words(self):
+        self.assertEqual(script.word_of(self.given()), ())
+        self.assertEqual(script.word_of(self.given(0, 4, 9)), (0, 4, 9))
+        self.assertEqual(script.word_of(script.given_bytes(31, bytes(range(31)))), tuple(range(31)))
+        for length in (32, 33, 255):
+            self.assertEqual(len(script.word_of(script.given_bytes(length, bytes(31)))), length)
+
+    def test_path_texts(self):
+        self.assertEqual(self.text("p", "A", 0, 2, self.given(0, 0), hexadecimal("91 92 93 94")),
+                         self.lines("path 3", "00010294"))
+        self.assertEqual(self.text("p", "G", 2, 0, self.given(2, 2), hexadecimal("91 92 93")),
+                         self.lines("path 3", "020100"))
+        self.assertEqual(self.text("p", "A", 0, 2, self.given(0), hexadecimal("91 92 93")),
+                         self.lines("path none", "919293"))
+        self.assertEqual(self.text("p", "A", 0, 2, self.given(0, 0), hexadecimal("91 92")),
+                         self.lines("path refused 14", "9192"))
+        self.assertEqual(self.text("p", "A", 0, 2, self.given(0, 1), b""),
+                         self.lines("path refused 11", ""))
+        self.assertEqual(self.text("p", "A", 0, 2, self.given(), b""),
+                         self.lines("path refused 11", ""))
+        self.assertEqual(self.text("p", "A", 0, 3, self.given(), b""),
+                         self.lines("path refused 10", ""))
+
+    def test_next_word_texts(self):
+        lent = b"\x91" * 31
+        self.assertEqual(self.text("n", "H", 0, 1, self.given(), lent),
+                         self.lines("next-word 1", "00" + "91" * 30))
+        self.assertEqual(self.text("n", "H", 0, 1, self.given(0), lent + b"\x92"),
+                         self.lines("next-word 1", "04" + "91" * 30 + "92"))
+        self.assertEqual(self.text("n", "H", 0, 1, self.given(4), lent),
+                         self.lines("next-word none", "91" * 31))
+        self.assertEqual(self.text("n", "H", 0, 1, self.given(), lent[1:]),
+                         self.lines("next-word refused 14", "91" * 30))
+        self.assertEqual(self.text("n", "A", 0, 1, script.given_bytes(32, bytes(31)), b""),
+                         self.lines("next-word refused 11", ""))
+
+    def test_a_length_above_31_is_refused_at_d_31(self):
+        data = file_with(2, [(0, 1, 0)], longest=31)
+        for length in (32, 255):
+            given = script.given_bytes(length, bytes(31))
+            for call in ("p", "n"):
+                output = bytes(100 + 32)
+                reply, after = script.word_reply(call, brute.Known(data), 0, 1, given, output)
+                self.assertEqual((reply, after), (("refused", 11), output))
+
+    def test_a_refused_file(self):
+        known = brute.Known(b"")
+        for call, name in (("p", "path"), ("n", "next-word")):
+            reply, after = script.word_reply(call, known, 9, 9, self.given(), self.BEFORE + self.AFTER)
+            self.assertEqual(script.word_text(call, reply, after), self.lines(name + " refused 1", ""))
+
+
+class LargerFiles(unittest.TestCase):
+
+    def listing_answer(self, known, call):
+        """The answer of the listing, as large.py writes it."""
+        room = 100 if call.room is None else call.room
+        reply = brute.path_reply if call.call == "p" else brute.next_word_reply
+        reply, after = reply(known, call.first, call.second, call.word, bytes(room))
+        if reply[0] == "refused":
+            return reply[1]
+        return None if len(reply) == 1 else tuple(after[:reply[1]])
+
+    def most_paths(self, n, graph):
+        """The most paths that a pair of the file can have."""
+        house = brute.decode(graph.data)
+        symbols = max(len(held) for held in brute.enlarged(house).values())
+        return run_paths.expected_paths(n, house.longest, symbols)
+
+    def test_the_arguments_hold_for_few_parties(self):
+        rng = random.Random(31)
+        held = {}
+        for n, rounds in ((4, 4), (5, 3), (6, 2)):
+            for graph in [graph for _ in range(rounds) for graph in large.graphs(rng, n)]:
+                if self.most_paths(n, graph) < 10000:
+                    known = brute.Known(graph.data)
+                    for call in graph.calls:
+                        self.assertEqual(self.listing_answer(known, call), call.answer, (n, graph.name, call))
+                    held[graph.name] = held.get(graph.name, 0) + len(graph.calls)
+        self.assertEqual(set(held), {graph.name for graph in large.graphs(rng, 4)})
+
+    def test_all_files_are_accepted(self):
+        made = large.graphs(random.Random(32), 32)
+        for graph in made:
+            self.assertEqual(brute.check(graph.data), 0, graph.name)
+            self.assertEqual(graph.data[1], 32, graph.name)
+        self.assertEqual({graph.data[3] for graph in made}, {0, 1, 2, 3})
+
+    def test_runs_turned_round(self):
+        self.assertEqual(large.turned_runs([]), [1])
+        self.assertEqual(large.turned_runs([0, 0]), [1, 2, 3])
+        self.assertEqual(large.turned_runs([1, 1]), [3, 2, 1])
+        self.assertEqual(large.turned_runs([0, 1, 1, 0, 1]), [1, 4, 3, 2, 6, 5])
+
+    def test_first_after(self):
+        sets = [{0, 4}, {2}, {1, 3}]
+        self.assertEqual(large.first_after(sets, (9, 9)), (0, 2, 1))
+        self.assertEqual(large.first_after(sets, (0, 2, 1)), (0, 2, 3))
+        self.assertEqual(large.first_after(sets, (0, 2, 3)), (4, 2, 1))
+        self.assertEqual(large.first_after(sets, (0, 0, 3)), (0, 2, 1))
+        self.assertEqual(large.first_after(sets, (1, 2, 3)), (4, 2, 1))
+        self.assertIsNone(large.first_after(sets, (4, 2, 3)))
+        self.assertIsNone(large.first_after(sets, (0, 0, 0, 0)))
+
+
+class Running(unittest.TestCase):
+    """A program that doesn't print the expected lines never passes."""
+
+    TEXTS = ["path 2\noutput 00\n", "next-word none\noutput 01\n", "path refused 10\noutput 02\n"]
+
+    def run_program(self, lines, stack=None):
+        """The exit status and the last line for a program of the shell with these lines."""
+        cases = [script.Case(script.frame("p", b""), text) for text in self.TEXTS]
+        tally, shown = comparing.Tally(), io.StringIO()
+        with tempfile.TemporaryDirectory() as folder, contextlib.redirect_stdout(shown):
+            program = os.path.join(folder, "program")
+            with open(program, "w") as out:
+                out.write("#!/bin/sh\n" + lines)
+            os.chmod(program, 0o755)
+            comparing.run(program, cases, tally, stack)
+            status = tally.close()
+        return status, shown.getvalue().splitlines()[-1]
+
+    def printing(self, text):
+        return "printf '%s'\n" % text.replace("\n", "\\n")
+
+    def test_the_expected_lines_pass(self):
+        self.assertEqual(self.run_program(self.printing("".join(self.TEXTS))), (0, "3 passed, 0 failed"))
+
+    def test_nothing_else_does(self):
+        whole = "".join(self.TEXTS)
+        self.assertEqual(self.run_program(""), (1, "0 passed, 3 failed"))
+        self.assertEqual(self.run_program(self.printing(self.TEXTS[0])), (1, "1 passed, 2 failed"))
+        self.assertEqual(self.run_program(self.printing(whole[:-1])), (1, "2 passed, 1 failed"))
+        self.assertEqual(self.run_program(self.printing(whole) + "exit 3\n"), (1, "3 passed, 1 failed"))
+        self.assertEqual(self.run_program(self.printing(whole + self.TEXTS[0])), (1, "3 passed, 1 failed"))
+        self.assertEqual(self.run_program(self.printing(whole + "output 03\n")), (1, "2 passed, 1 failed"))
+        without_second_lines = "".join(text.splitlines(keepends=True)[0] for text in self.TEXTS)
+        self.assertEqual(self.run_program(self.printing(without_second_lines)), (1, "0 passed, 3 failed"))
+
+    def test_the_stack_is_limited(self):
+        lines = "test $(ulimit -s) = 1024 || exit 1\n" + self.printing("".join(self.TEXTS))
+        self.assertEqual(self.run_program(lines, run_paths.STACK), (0, "3 passed, 0 failed"))
+
+    def test_no_frames_and_no_program(self):
+        with contextlib.redirect_stdout(io.StringIO()):
+            self.assertEqual(comparing.Tally().close(), 1)
+            tally = comparing.Tally()
+            comparing.run("/nowhere/at/all", [script.Case(script.frame("c", b""), "check refused 1\n")], tally)
+            self.assertEqual(tally.close(), 1)
+
+    def test_every_demand_is_missed_by_nothing(self):
+        lines = run_paths.lacking(run_paths.Collection(random.Random(1)), [])
+        self.assertEqual(len(lines), len(run_paths.DEMANDS) + 2)
 
 
 if __name__ == "__main__":

@@ -14,7 +14,7 @@ pub struct Frame {
     pub scratch: usize,
 }
 
-fn wide(x: u8) -> usize
+pub fn wide(x: u8) -> usize
     ensures { λ r. ⌜ r < 256 ⌝ }
 {
     x as usize

@@ -8,6 +8,7 @@ use house_file::House;
 use libc::STDIN_FILENO;
 use libc::STDOUT_FILENO;
 
+mod calls;
 mod frame;
 mod print;
 
@@ -18,7 +19,7 @@ use print::hex_mask;
 use print::line;
 use print::text;
 
-fn refused(e: house_file::Refusal) {
+pub fn refused(e: house_file::Refusal) {
     text(b" refused ");
     decimal(house_file::number(e) as u64);
     line();
@@ -113,7 +114,7 @@ fn run(call: u8, file: &[u8]) {
 }
 
 // Reads the n bytes that come next into the space; false where the space or the script is too short.
-fn fill(space: &mut [u8], n: usize) -> bool
+pub fn fill(space: &mut [u8], n: usize) -> bool
     ensures { λ r. ⌜ (r ≡ true → n ≤ length (now (space .exit))) ⌝ }
 {
     if space.len() < n {
@@ -125,6 +126,9 @@ fn fill(space: &mut [u8], n: usize) -> bool
 fn run_with(f: Frame, file: &mut [u8]) -> bool {
     let n = f.file;
     if fill(file, n) {
+        if calls::lends(f.call) {
+            return calls::run(f, &file[..n]);
+        }
         run(f.call, &file[..n]);
         return true;
     }

@@ -9,11 +9,14 @@ use Rattle.cases.proofs.run_with.Tie as tie
 fill-requires : tie.Need-fill-requires
 fill-requires c κs = search needs
 
+lends-requires : tie.Need-lends-requires
+lends-requires c κs = search needs
+
 slice-reshare-prefix-run : tie.Need-slice-reshare-prefix-run
-slice-reshare-prefix-run c = c .before .before .before .fill .ensures (c .if1 .taken)
+slice-reshare-prefix-run c = c .before .before .before .before .before .fill .ensures (c .before .before .if1 .taken)
 
 slice-aggregate-run : tie.Need-slice-aggregate-run
-slice-aggregate-run c = sym (length-take-le _ _ (c .before .before .before .before .fill .ensures (c .before .if1 .taken)))
+slice-aggregate-run c = sym (length-take-le _ _ (c .before .before .before .before .before .before .fill .ensures (c .before .before .before .if1 .taken)))
 
 run-requires : tie.Need-run-requires
 run-requires c κs = search needs
@@ -24,21 +27,42 @@ same-length c = search needs
 returns : tie.Need-returns
 returns c = search needs
 
+slice-reshare-prefix-run-2 : tie.Need-slice-reshare-prefix-run-2
+slice-reshare-prefix-run-2 c = c .before .before .before .before .before .fill .ensures (c .before .before .if1 .taken)
+
+slice-aggregate-run-2 : tie.Need-slice-aggregate-run-2
+slice-aggregate-run-2 c = sym (length-take-le _ _ (c .before .before .before .before .before .before .fill .ensures (c .before .before .before .if1 .taken)))
+
+run-requires-2 : tie.Need-run-requires-2
+run-requires-2 c κs = search needs
+
 same-length-2 : tie.Need-same-length-2
 same-length-2 c = search needs
 
 returns-2 : tie.Need-returns-2
 returns-2 c = search needs
 
+same-length-3 : tie.Need-same-length-3
+same-length-3 c = search needs
+
+returns-3 : tie.Need-returns-3
+returns-3 c = search needs
+
 pub run-with-spec : {M : Type 1} → statement M
 run-with-spec =
     tie.close
     (tie.spec
     fill-requires
+    lends-requires
     slice-reshare-prefix-run
     slice-aggregate-run
     run-requires
     same-length
     returns
+    slice-reshare-prefix-run-2
+    slice-aggregate-run-2
+    run-requires-2
     same-length-2
-    returns-2)
+    returns-2
+    same-length-3
+    returns-3)

@@ -1,0 +1,92 @@
+// The calls that write to a lent output: path and next-word.
+ghost use mathlib.Core.Path.{_≡_};
+ghost use Prim.Native.Nat.{_+_, _≤_};
+ghost use lib.ListN.{length};
+use crate::fill;
+use crate::frame::Frame;
+use crate::frame::wide;
+use crate::print::decimal;
+use crate::print::hex_byte;
+use crate::print::line;
+use crate::print::text;
+use crate::refused;
+use paths::Reply;
+use paths::Word;
+
+// Whether a call has a word and an output.
+pub fn lends(call: u8) -> bool {
+    call == b'p' || call == b'n'
+}
+
+// The word of a frame: its length, then 31 symbols.
+fn word_of(given: &[u8; 32]) -> Word {
+    let mut symbols = [0u8; 31];
+    let mut i = 0;
+    while i < 31 {
+        symbols[i] = given[i + 1];
+        i += 1;
+    }
+    Word {
+        len: wide(given[0]),
+        symbols,
+    }
+}
+
+fn show_reply(r: Reply) {
+    match r {
+        Reply::Refused(e) => refused(e),
+        Reply::Nothing => {
+            text(b" none\n");
+        }
+        Reply::Wrote(k) => {
+            text(b" ");
+            decimal(k as u64);
+            line();
+        }
+    }
+}
+
+fn show_output(out: &[u8]) {
+    text(b"output ");
+    let mut i = 0;
+    while i < out.len() {
+        hex_byte(out[i]);
+        i += 1;
+    }
+    line();
+}
+
+// Lends the middle of a space of 16 + n + 16 bytes and shows all of it.
+fn answer(f: Frame, file: &[u8], w: Word, space: &mut [u8], end: usize)
+    requires { ⌜ (16 ≤ end) × (end ≤ length (now space)) ⌝ }
+{
+    let first = f.first as usize;
+    let second = f.second as usize;
+    if f.call == b'p' {
+        text(b"path");
+        show_reply(paths::path(file, first, second, w, &mut space[16..end]));
+    } else {
+        text(b"next-word");
+        show_reply(paths::next_call(file, first, second, w, &mut space[16..end]));
+    }
+}
+
+// Reads the word and the output of a frame and runs its call; false where the script is too short.
+pub fn run(f: Frame, file: &[u8]) -> bool {
+    let mut given = [0u8; 32];
+    if !fill(&mut given, 32) {
+        return false;
+    }
+    let w = word_of(&given);
+    let mut space = [0u8; 256];
+    let n = f.output;
+    if 200 < n {
+        return false;
+    }
+    if !fill(&mut space, n + 32) {
+        return false;
+    }
+    answer(f, file, w, &mut space, n + 16);
+    show_output(&space[..n + 32]);
+    true
+}
