@@ -37,7 +37,7 @@ use Rattle.paths.specs.Calls.{Answer, refuses, found, legalWord, pathIn,
 use Rattle.paths.specs.declared.word.Word.{Word}
 use Rattle.paths.specs.declared.search.Found.{Found}
 use Rattle.paths.proofs.SearchLaws.{symbols-length, found-not, found-some}
-use Rattle.paths.specs.Ask.{tableGraph, searchPair}
+use Rattle.paths.specs.Ask.{tableGraph, searchPair, Query}
 use Rattle.paths.specs.Next.{Alphabet}
 use Rattle.paths.proofs.AskLaws.{search-path, least-fixed, all-fixed}
 
@@ -225,3 +225,15 @@ copied src l old new e q = q ∙ rw (e, take-length l)
 pub legal-length : (M : Matter) (w : Word) → legalWord M w ≡ true → w .len ≤ M .longest
 unfolding legalWord
 legal-length M w e = leb-true (w .len) (M .longest) (and-left (leb (w .len) (M .longest)) _ e)
+
+-- a pair and a word that passed may be searched for
+pub query-of : (M : Matter) (s : Archive) → Shows M s → (a b : ℕ) (w : Word) → isPair (M .parties) a b ≡ true → Short w → Query (s .parties) a b w
+query-of M s h a b w e short =
+    let p = pair-of (M .parties) a b e in
+    record {
+      parties = omega (arith, h .parties, h .limits .parties .1);
+      start = omega (arith, h .parties, p .start);
+      end = omega (arith, h .parties, p .end);
+      different = p .different;
+      short = short;
+    }

@@ -25,7 +25,7 @@ pub enum Reply {
 }
 
 // Whether the word has at most D symbols, each of the language and with a label below L.
-fn legal_word(labels: usize, language: usize, longest: usize, w: Word) -> bool
+pub fn legal_word(labels: usize, language: usize, longest: usize, w: Word) -> bool
     requires { ⌜ (language ≤ 3) × (longest ≤ 31) ⌝ }
     ensures { λ r. ⌜ r ≡ (leb (w .len) longest && allOf (legalSymbol labels language) (symbolsIn w)) ⌝ }
 {

@@ -8,6 +8,7 @@ mod word;
 pub use ask::has_word;
 pub use ask::search_pair;
 pub use call::Reply;
+pub use call::legal_word;
 pub use call::next as next_call;
 pub use call::path;
 pub use next::Next;

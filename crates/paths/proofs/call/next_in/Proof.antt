@@ -23,7 +23,7 @@ use Rattle.paths.specs.Next.{NextAs}
 use Rattle.paths.specs.declared.call.Reply.the-variants.{Wrote}
 use Rattle.paths.proofs.SearchLaws.{symbols-length}
 use Rattle.paths.proofs.NextLaws.{next-not, next-some}
-use Rattle.paths.proofs.CallLaws.{pair-of, PairOf, shown-pair, shown-legal, shown-alphabet, legal-short, legal-length, next-pair, next-word-bad, next-short, next-answer, copied}
+use Rattle.paths.proofs.CallLaws.{query-of, pair-of, PairOf, shown-pair, shown-legal, shown-alphabet, legal-short, legal-length, next-pair, next-word-bad, next-short, next-answer, copied}
 use borrow.Author.Needs.{needs}
 use Rattle.paths.proofs.call.next_in.Statement.{statement}
 use Rattle.paths.proofs.call.next_in.Tie as tie
@@ -86,9 +86,8 @@ next-word-requires : tie.Need-next-word-requires
 next-word-requires c κs =
     let x = c .before .before .before .before .before .before .before in
     let S = x .pre .1 in
-    let p = pair-of (x .pre .0 .parties) _ _ (pair-ok (c .before .before .before .before) (x .pre .0) S) in
     let l = legal-length (x .pre .0) (x .args .w) (legal (c .before .before) (x .pre .0) S) in (
-      record { parties = omega (arith, S .parties, S .limits .parties .1); start = omega (arith, S .parties, p .start); end = omega (arith, S .parties, p .end); different = p .different; short = short (c .before .before) },
+      query-of (x .pre .0) (x .args .a) S (x .args .first) (x .args .second) (x .args .w) (pair-ok (c .before .before .before .before) (x .pre .0) S) (short (c .before .before)),
       (omega (arith, S .longest, l), omega (arith, S .longest, S .limits .longest .1)),
     )
 

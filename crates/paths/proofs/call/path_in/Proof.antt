@@ -15,7 +15,7 @@ use Rattle.paths.specs.Calls.{Answer, writes, replyOf, outputOf, found, 
 use Rattle.paths.specs.declared.word.Word.{Word}
 use Rattle.paths.specs.declared.call.Reply.the-variants.{Wrote}
 use lib.Count.{ones}
-use Rattle.paths.proofs.CallLaws.{pair-of, PairOf, shown-pair, shown-legal, legal-short, path-pair, path-word, path-empty, path-short, path-answer, PathFound, path-found, path-not, copied}
+use Rattle.paths.proofs.CallLaws.{query-of, pair-of, PairOf, shown-pair, shown-legal, legal-short, path-pair, path-word, path-empty, path-short, path-answer, PathFound, path-found, path-not, copied}
 use lib.ListN.{length-set}
 use lib.Seq.{length-take-le}
 use borrow.Author.Needs.{needs}
@@ -87,9 +87,7 @@ returns-4 c =
 search-pair-requires : tie.Need-search-pair-requires
 search-pair-requires c κs =
     let x = c .before .before .before .before .before .before .before .before in
-    let S = x .pre .1 in
-    let p = pair-of (x .pre .0 .parties) _ _ (pair-ok (c .before .before .before .before .before) (x .pre .0) S) in
-    record { parties = omega (arith, S .parties, S .limits .parties .1); start = omega (arith, S .parties, p .start); end = omega (arith, S .parties, p .end); different = p .different; short = short (c .before .before .before) }
+    query-of (x .pre .0) (x .args .a) (x .pre .1) (x .args .first) (x .args .second) (x .args .w) (pair-ok (c .before .before .before .before .before) (x .pre .0) (x .pre .1)) (short (c .before .before .before))
 
 cast-parties : tie.Need-cast-parties
 cast-parties c =
