@@ -315,14 +315,14 @@ def forced_start(rng, n, language, rest):
     return Graph("line in language %d, forced start" % language, data, calls)
 
 
-def planted(rng, n, longest_planted):
+def planted(rng, n):
     """Relations by the throw of a coin, language 3. A path is chosen and with it a word; the word one
     lower in its last symbol is given. No word stands between the two, so the chosen one is next."""
     edges = {(a, b, label) for a, b in all_pairs(n) for label in range(8) if rng.random() < 0.5}
     data, calls = file_of(rng, n, 8, 3, edges), []
     graph = brute.enlarged(brute.decode(data))
     while len(calls) < 60:
-        parties = rng.sample(range(n), rng.randint(2, longest_planted + 1))
+        parties = rng.sample(range(n), rng.randint(2, n))
         word = tuple(rng.choice(graph[step]) for step in zip(parties, parties[1:]))
         if word[-1] > 0:
             calls.append(next_word(parties[0], parties[-1], word[:-1] + (word[-1] - 1,), word))
@@ -361,7 +361,7 @@ def graphs(rng, n):
              for language in range(4) for labels, present in ((2, 1), (1, 0), (8, 8))
              if (language, present) not in ((0, 0), (2, 0))]  # those two have no words at all
     made += [ranks(rng, n), forced_start(rng, n, 1, rest), forced_start(rng, n, 3, rest)]
-    made += [planted(rng, n, min(n - 1, 24)), refusals(rng, n), shorter_limit(rng, n)]
+    made += [planted(rng, n), refusals(rng, n), shorter_limit(rng, n)]
     return made
 
 

@@ -201,7 +201,6 @@ class Asker:
         """A pair with a party of n or more, or the same party twice."""
         n, rng = self.house.n, self.rng
         inside, outside = rng.randrange(n), rng.choice([n, n, 31, 32, 255, rng.randint(n, 255)])
-        outside = max(outside, n)
         return rng.choice([(inside, inside), (inside, outside), (outside, inside), (outside, outside)])
 
     def odd_call(self, call):
@@ -351,7 +350,7 @@ def occurrences(known, asked, reply, word):
         if len(word) >= known.house.n:
             found.append("longer than n - 1")
         listed = known.least_paths(asked.first, asked.second)
-        found += path_occurrences(known, asked, reply, word) if asked.call == PATH \
+        found += path_occurrences(known, asked, word) if asked.call == PATH \
             else next_word_occurrences(listed, reply, word)
     return ["%s: %s" % (name, what) for what in found]
 
@@ -386,7 +385,7 @@ def faults(known, asked, word):
     return ["label too high" if high else "kind not of the language"]
 
 
-def path_occurrences(known, asked, reply, word):
+def path_occurrences(known, asked, word):
     """What is special in a path call that isn't refused."""
     found = []
     listed = known.least_paths(asked.first, asked.second)
@@ -500,6 +499,15 @@ def lacking(collection, large_cases):
     return lines
 
 
+def account_text(account):
+    """How often each thing occurs: a line for each call, and one for the walks."""
+    lines = {}
+    for name, times in sorted(account.items()):
+        call, _, what = name.rpartition(": ")
+        lines.setdefault(call or "walks", []).append("%s %d times" % (what, times))
+    return "\n".join("%s: %s" % (call, "; ".join(parts)) for call, parts in lines.items())
+
+
 # ------------------------------------------------------------------- the run
 
 def collect():
@@ -522,8 +530,7 @@ def main(arguments):
     comparing.run(binary, large_cases, tally, stack=STACK)
     print("%d different files, %d frames, and %d frames of larger files" % (
         len(collection.files), len(collection.cases), len(large_cases)))
-    for name, times in sorted(collection.account.items()):
-        print("%7d %s" % (times, name))
+    print(account_text(collection.account))
     for line in lacking(collection, large_cases):
         tally.fault(line)
     return tally.close()

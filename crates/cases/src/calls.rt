@@ -1,21 +1,22 @@
-// The calls that write to a lent output: path and next-word.
+// The calls that are given more than a file.
 ghost use mathlib.Core.Path.{_≡_};
 ghost use Prim.Native.Nat.{_+_, _≤_};
 ghost use lib.ListN.{length};
 use crate::fill;
 use crate::frame::Frame;
 use crate::frame::wide;
+use crate::listed;
 use crate::print::decimal;
-use crate::print::hex_byte;
+use crate::print::hex_bytes;
 use crate::print::line;
 use crate::print::text;
 use crate::refused;
 use paths::Reply;
 use paths::Word;
 
-// Whether a call has a word and an output.
-pub fn lends(call: u8) -> bool {
-    call == b'p' || call == b'n'
+// Whether a call has more than a file: a word and an output, or a rule list.
+pub fn has_more(call: u8) -> bool {
+    call == b'p' || call == b'n' || call == b'r' || call == b'x'
 }
 
 // The word of a frame: its length, then 31 symbols.
@@ -48,11 +49,7 @@ fn show_reply(r: Reply) {
 
 fn show_output(out: &[u8]) {
     text(b"output ");
-    let mut i = 0;
-    while i < out.len() {
-        hex_byte(out[i]);
-        i += 1;
-    }
+    hex_bytes(out);
     line();
 }
 
@@ -71,8 +68,17 @@ fn answer(f: Frame, file: &[u8], w: Word, space: &mut [u8], end: usize)
     }
 }
 
-// Reads the word and the output of a frame and runs its call; false where the script is too short.
+// Reads what else a frame has and runs its call; false where the script is too short.
 pub fn run(f: Frame, file: &[u8]) -> bool {
+    if f.call == b'p' || f.call == b'n' {
+        return run_word(f, file);
+    }
+    let mut list = io::large_buffer();
+    listed::run_list(f, file, &mut list)
+}
+
+// Path and next-word.
+fn run_word(f: Frame, file: &[u8]) -> bool {
     let mut given = [0u8; 32];
     if !fill(&mut given, 32) {
         return false;

@@ -10,6 +10,7 @@ use libc::STDOUT_FILENO;
 
 mod calls;
 mod frame;
+mod listed;
 mod print;
 
 use frame::Frame;
@@ -126,7 +127,7 @@ pub fn fill(space: &mut [u8], n: usize) -> bool
 fn run_with(f: Frame, file: &mut [u8]) -> bool {
     let n = f.file;
     if fill(file, n) {
-        if calls::lends(f.call) {
+        if calls::has_more(f.call) {
             return calls::run(f, &file[..n]);
         }
         run(f.call, &file[..n]);

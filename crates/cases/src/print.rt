@@ -36,3 +36,12 @@ pub fn hex_mask(x: u32) {
     hex_byte((x / 256 % 256) as u8);
     hex_byte((x % 256) as u8);
 }
+
+// Each byte of a slice as two of them.
+pub fn hex_bytes(s: &[u8]) {
+    let mut i = 0;
+    while i < s.len() {
+        hex_byte(s[i]);
+        i += 1;
+    }
+}

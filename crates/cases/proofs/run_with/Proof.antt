@@ -1,6 +1,5 @@
 -- What was filled has the length that was asked for.
 use mathlib.Core.Path.{sym}
-use native.Mathlib.Omega.{arith}
 use lib.Seq.{length-take-le}
 use borrow.Author.Needs.{needs}
 use Rattle.cases.proofs.run_with.Statement.{statement}
@@ -9,8 +8,8 @@ use Rattle.cases.proofs.run_with.Tie as tie
 fill-requires : tie.Need-fill-requires
 fill-requires c κs = search needs
 
-lends-requires : tie.Need-lends-requires
-lends-requires c κs = search needs
+has-more-requires : tie.Need-has-more-requires
+has-more-requires c κs = search needs
 
 slice-reshare-prefix-run : tie.Need-slice-reshare-prefix-run
 slice-reshare-prefix-run c = c .before .before .before .before .before .fill .ensures (c .before .before .if1 .taken)
@@ -53,7 +52,7 @@ run-with-spec =
     tie.close
     (tie.spec
     fill-requires
-    lends-requires
+    has-more-requires
     slice-reshare-prefix-run
     slice-aggregate-run
     run-requires

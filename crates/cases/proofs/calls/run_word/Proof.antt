@@ -2,8 +2,8 @@
 use mathlib.Core.Path.{sym}
 use lib.Seq.{length-take-le}
 use borrow.Author.Needs.{needs}
-use Rattle.cases.proofs.calls.run.Statement.{statement}
-use Rattle.cases.proofs.calls.run.Tie as tie
+use Rattle.cases.proofs.calls.run_word.Statement.{statement}
+use Rattle.cases.proofs.calls.run_word.Tie as tie
 
 slice-aggregate-fill : tie.Need-slice-aggregate-fill
 slice-aggregate-fill c = search needs
@@ -56,8 +56,8 @@ show-output-requires c κs = search needs
 returns-4 : tie.Need-returns-4
 returns-4 c = search needs
 
-pub run-spec : {M : Type 1} → statement M
-run-spec =
+pub run-word-spec : {M : Type 1} → statement M
+run-word-spec =
     tie.close
     (tie.spec
     slice-aggregate-fill

@@ -1,0 +1,77 @@
+// The calls that are given a rule list: permit, and its text.
+ghost use Rattle.rebac.specs.Matter.{Matter};
+ghost use Rattle.graph.specs.Archive.{Shows};
+use crate::fill;
+use crate::frame::Frame;
+use crate::print::hex_bytes;
+use crate::print::line;
+use crate::print::text;
+use crate::refused;
+use graph::Archive;
+use house_file::Check;
+use house_file::Refusal;
+use rules::PermitReply;
+
+fn show_permit(f: Frame, file: &[u8], list: &[u8]) {
+    text(b"permit");
+    let first = f.first as usize;
+    let second = f.second as usize;
+    let reply = rules::permit(file, list, first, second);
+    match reply {
+        PermitReply::Refused(e) => refused(e),
+        PermitReply::Yes => {
+            text(b" yes\n");
+        }
+        PermitReply::No => {
+            text(b" no\n");
+        }
+    }
+}
+
+// The list's text, where the list is right for the file.
+fn show_text_in(a: Archive, list: &[u8], out: &mut [u8])
+    requires { ⌜ ((M : Matter) × Shows M a) ⌝ }
+{
+    if !rules::check_list(list, a.labels, a.language, a.longest) {
+        refused(Refusal::RuleList);
+        return;
+    }
+    if out.len() / 3 < list.len() {
+        return;
+    }
+    let k = rules::list_text(list, out);
+    if out.len() < k {
+        return;
+    }
+    text(b" ");
+    hex_bytes(&out[..k]);
+    line();
+}
+
+fn show_text(file: &[u8], list: &[u8]) {
+    text(b"text");
+    let r = graph::load(file);
+    let reply = r.reply;
+    match reply {
+        Check::Refused(e) => refused(e),
+        Check::Accepted => {
+            let a = r.archive;
+            let mut out = io::large_buffer();
+            show_text_in(a, list, &mut out);
+        }
+    }
+}
+
+// Reads the list of a frame and runs its call; false where the script is too short.
+pub fn run_list(f: Frame, file: &[u8], space: &mut [u8]) -> bool {
+    let n = f.given;
+    if fill(space, n) {
+        if f.call == b'r' {
+            show_permit(f, file, &space[..n]);
+        } else {
+            show_text(file, &space[..n]);
+        }
+        return true;
+    }
+    false
+}

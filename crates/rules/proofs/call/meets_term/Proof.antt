@@ -1,0 +1,91 @@
+-- Words read so far and words ahead (MeetLaws).
+use Rattle.paths.specs.declared.word.Word.{Word}
+use mathlib.Core.Path.{_≡_, sym, ap, _∙_}
+use mathlib.Core.Bool.{Bool, _&&_}
+use mathlib.Core.List.{List}
+use mathlib.Core.Logic.{⊎-elim}
+use Prim.Native.Nat.{ℕ}
+use native.Mathlib.Omega.{arith}
+use Rattle.rebac.specs.Matter.{pair}
+use Rattle.rebac.specs.Paths.{has}
+use Rattle.paths.specs.Ask.{tableGraph}
+use Rattle.paths.specs.Word.{symbolsIn}
+use Rattle.rules.specs.Reading.{TermAt, wordOf}
+use Rattle.rules.specs.Permit.{meetsTerm}
+use Rattle.rules.specs.declared.read.WordRead.{WordRead}
+use Rattle.rules.proofs.PlaceLaws.{term-room, word-fits, word-value, word-short, word-symbols}
+use Rattle.rules.proofs.MeetLaws.{TermSoFar, meet-start, meet-entry, meet-next, meet-end}
+use borrow.Author.Needs.{needs}
+use Rattle.rules.proofs.call.meets_term.Statement.{statement}
+use Rattle.rules.proofs.call.meets_term.Tie as tie
+
+abbrev Inv-loop : tie.InvT-loop
+Inv-loop g n list at first second met₀ left₀ place₀ met left place = (t : List (List ℕ)) (s : List ℕ) → TermAt list at t s → TermSoFar (has (tableGraph n g) (pair first second)) list place left met t s
+
+abbrev μ-loop : tie.MeasureT-loop
+μ-loop g n list at first second met₀ left₀ place₀ met left place = left
+
+u16-at-requires : tie.Need-u16-at-requires Inv-loop μ-loop
+u16-at-requires c κs =
+    let w = c .before .pre .1 .1 in
+    term-room _ _ (w .0) (w .1 .0) (w .1 .1)
+
+add-place : tie.Need-add-place Inv-loop μ-loop
+add-place c =
+    let w = c .before .before .pre .1 .1 in
+    omega (arith, term-room _ _ (w .0) (w .1 .0) (w .1 .1))
+
+loop-holds : tie.Need-loop-holds Inv-loop μ-loop
+loop-holds c = λ t s h. meet-start _ _ t s _ _ h (c .u16-at .ensures .0)
+
+read-word-requires : tie.Need-read-word-requires Inv-loop μ-loop
+read-word-requires c κs =
+    let w = c .before .before .before .before .pre .1 .1 in
+    let n = meet-entry _ _ _ _ _ _ _ (c .before .loop .inv (w .0) (w .1 .0) (w .1 .1)) (c .loop-test .taken) in
+    word-fits _ _ (n .first) _ (n .bytes) (n .fits)
+
+has-word-requires : tie.Need-has-word-requires Inv-loop μ-loop
+has-word-requires c κs =
+    let w = c .before .before .before .before .before .before .before .pre .1 .1 in
+    let n = meet-entry _ _ _ _ _ _ _ (c .before .before .before .before .loop .inv (w .0) (w .1 .0) (w .1 .1)) (c .before .before .before .loop-test .taken) in
+    let k : c .before .before .read-word .result .word ≡ wordOf (n .first) = ap (λ (r : WordRead). r .word) (c .before .before .read-word .ensures) ∙ word-value (c .before .before .before .before .before .before .before .args .list .now) (c .before .before .before .before .loop .place) (n .first) _ (n .bytes) in
+    record { parties = c .before .before .before .before .before .before .before .pre .0; start = c .before .before .before .before .before .before .before .pre .1 .0 .first; end = c .before .before .before .before .before .before .before .pre .1 .0 .second; different = c .before .before .before .before .before .before .before .pre .1 .0 .different; short = rw k (word-short (n .first) (n .fits)) }
+
+sub-left : tie.Need-sub-left Inv-loop μ-loop
+sub-left c = search needs
+
+loop-less : tie.Need-loop-less Inv-loop μ-loop
+loop-less c = search needs
+
+loop-again : tie.Need-loop-again Inv-loop μ-loop
+loop-again c =
+    λ t s h.
+    let f = c .before .before .before .loop .inv t s h in
+    let n = meet-entry _ _ _ _ _ _ _ f (c .before .before .loop-test .taken) in
+    let p : List ℕ → Bool = has (tableGraph (c .before .before .before .before .before .before .args .n) (c .before .before .before .before .before .before .args .g)) (pair (c .before .before .before .before .before .before .args .first) (c .before .before .before .before .before .before .args .second)) in
+    let k : c .before .read-word .result .word ≡ wordOf (n .first) = ap (λ (r : WordRead). r .word) (c .before .read-word .ensures) ∙ word-value (c .before .before .before .before .before .before .args .list .now) (c .before .before .before .loop .place) (n .first) _ (n .bytes) in
+    let z = ap (λ (r : WordRead). r .next) (c .before .read-word .ensures) in
+    rw z (meet-next _ _ _ _ _ _ _ f (c .before .before .loop-test .taken) (c .if1 .met) (⊎-elim
+    (λ x. x .3 ∙ x .2 .ensures ∙ ap (λ (v : Word). p (symbolsIn v)) k ∙ ap p (word-symbols (n .first)) ∙ sym (ap (λ (q : Bool). q && p (n .first)) (x .0 .taken)))
+    (λ x. x .1 ∙ x .0 .left ∙ sym (ap (λ (q : Bool). q && p (n .first)) (x .0 .left)))
+    (c .if1 .came)))
+
+returns : tie.Need-returns Inv-loop μ-loop
+unfolding meetsTerm
+returns c = λ t s h. meet-end _ _ t s _ _ _ (c .before .loop .inv t s h) (omega (arith, c .loop-test .left))
+
+pub meets-term-spec : {M : Type 1} → statement M
+meets-term-spec =
+    tie.close
+    (tie.spec
+    Inv-loop
+    μ-loop
+    u16-at-requires
+    add-place
+    loop-holds
+    read-word-requires
+    has-word-requires
+    sub-left
+    loop-less
+    loop-again
+    returns)

@@ -1,0 +1,53 @@
+-- The permit call (01, "The calls").
+use Prim.Native.Nat.{ℕ}
+use mathlib.Core.Bool.{Bool, true, false}
+use mathlib.Core.List.{List}
+use mathlib.Core.Option.{Option, none, some}
+use Rattle.lists.specs.Lists.{allOf, anyOf}
+use Rattle.masks.specs.declared.Table.{Table}
+use Rattle.rebac.specs.Matter.{Matter, Pair, pair}
+use Rattle.rebac.specs.Paths.{has}
+use Rattle.rebac.specs.Existence.{permitsPair}
+use Rattle.house_file.specs.Check.{checkOf}
+use Rattle.house_file.specs.declared.reply.Check.{Check}
+use Rattle.house_file.specs.declared.reply.Check.the-variants as check
+use Rattle.house_file.specs.declared.reply.Refusal.{Refusal}
+use Rattle.house_file.specs.declared.reply.Refusal.the-variants.{RuleList, PartyPair}
+use Rattle.graph.specs.Archive.{matterOf}
+use Rattle.graph.specs.Legal.{isPair}
+use Rattle.paths.specs.Ask.{tableGraph}
+use Rattle.rules.specs.ListBytes.{decodeList}
+use Rattle.rules.specs.declared.call.PermitReply.{PermitReply}
+use Rattle.rules.specs.declared.call.PermitReply.the-variants.{Refused, Yes, No}
+
+abbrev pub yesOrNo : Bool → PermitReply
+yesOrNo true = Yes
+yesOrNo false = No
+
+-- 9, or by the list that the bytes are
+abbrev pub answerBy : Matter → Pair → Option (List (List (List ℕ))) → PermitReply
+answerBy M p none = Refused RuleList
+answerBy M p (some l) = yesOrNo (permitsPair M l p)
+
+abbrev pub unless : Bool → Refusal → PermitReply → PermitReply
+unless true x k = k
+unless false x k = Refused x
+
+-- the answer for an accepted file: 10, then 9, then yes or no
+unfoldable pub permitIn : Matter → List ℕ → ℕ → ℕ → PermitReply
+permitIn M list a b = unless (isPair (M .parties) a b) PartyPair (answerBy M (pair a b) (decodeList (M .labels) (M .language) (M .longest) list))
+
+abbrev pub afterCheck : Check → PermitReply → PermitReply
+afterCheck check.Accepted k = k
+afterCheck (check.Refused x) k = Refused x
+
+-- 01: "Permit: for a rule list and a pair, yes or no." For any bytes; the file's refusals come first
+unfoldable pub permitReply : List ℕ → List ℕ → ℕ → ℕ → PermitReply
+permitReply file list a b = afterCheck (checkOf file) (permitIn (matterOf file) list a b)
+
+-- over the masks of a graph: the pair has all words of a term; it meets a term of the list
+unfoldable pub meetsTerm : ℕ → Table → ℕ → ℕ → List (List ℕ) → Bool
+meetsTerm n g a b t = allOf (has (tableGraph n g) (pair a b)) t
+
+unfoldable pub meetsList : ℕ → Table → ℕ → ℕ → List (List (List ℕ)) → Bool
+meetsList n g a b l = anyOf (meetsTerm n g a b) l
