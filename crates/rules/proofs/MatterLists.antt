@@ -25,9 +25,10 @@ use Rattle.house_file.specs.declared.reply.Check.the-variants.{Accepted}
 use Rattle.graph.specs.Archive.{matterOf}
 use Rattle.graph.proofs.LoadLaws.{accepted-limits}
 use Rattle.rules.specs.ListBytes.{encodeList, legalWord, LegalList}
-use Rattle.graph.specs.Legal.{legalSymbol}
+use Rattle.graph.specs.Legal.{legalSymbol, isPair}
+use Rattle.rules.specs.Reading.{IsList}
+use Rattle.rules.proofs.PlaceLaws.{list-legal-fits}
 use Rattle.rules.specs.Permit.{yesOrNo, permitIn, permitReply}
-use Rattle.graph.specs.Legal.{isPair}
 use Rattle.rules.proofs.RoundTrip.{decode-encode}
 use Rattle.rules.proofs.PermitLaws.{pair-is}
 
@@ -61,6 +62,16 @@ module _ (M : Matter) where
   mined-legal cap few v =
       converts-legal (plainList (minedList M)) (mined-converts M cap v) (omega (arith, length-map plainTerm (minedList M), mined-terms-few M few))
       (λ t m. let s = map-out plainTerm (minedList M) m in rw (s .2) (omega (arith, length-map (λ i. i .word) (s .0), mined-items-few M few (s .0) (s .1))))
+
+-- the bytes of a legal list are a list for `meets_list` and `list_text`
+pub legal-is-list : (M : Matter) → M .labels ≤ 8 → M .longest ≤ 31 → (l : List (List Word)) → LegalFor M l → IsList (encodeList l) l
+legal-is-list M few short l h = record { bytes = refl; fits = list-legal-fits (M .labels) (M .language) (M .longest) few short l h }
+
+-- the mined list's among them
+pub mined-is-list : (f : List ℕ) → checkOf f ≡ Accepted → capOf (matterOf f .language) ≡ 1 → verdictOf (matterOf f) ≡ convertible → IsList (encodeList (plainList (minedList (matterOf f)))) (plainList (minedList (matterOf f)))
+mined-is-list f e cap v =
+    let k = accepted-limits f e in
+    legal-is-list (matterOf f) (k .labels .1) (k .longest .1) (plainList (minedList (matterOf f))) (mined-legal (matterOf f) cap (k .parties .1) v)
 
 -- permit on the bytes of a legal list
 pub permit-of-list : (f : List ℕ) → checkOf f ≡ Accepted → (l : List (List Word)) → LegalFor (matterOf f) l → (a b : ℕ) → isPair (matterOf f .parties) a b ≡ true → permitReply f (encodeList l) a b ≡ yesOrNo (permitsPair (matterOf f) l (pair a b))

@@ -5,10 +5,9 @@ use mathlib.Core.Bool.{Bool, true, _&&_}
 use mathlib.Core.List.{List, [], _∷_, _++_, List·Memᴰ}
 use mathlib.Core.Option.{Option, none, some}
 use lib.ListN.{length, take, drop, getD}
-use lib.Dec.{leb, ltb}
-use Rattle.lists.specs.Lists.{allOf, flatMap, member}
+use lib.Dec.{leb}
+use Rattle.lists.specs.Lists.{allOf, flatMap}
 use Rattle.rebac.specs.Options.{given}
-use Rattle.rebac.specs.Symbols.{kinds}
 use Rattle.graph.specs.Legal.{legalSymbol}
 
 -- 01: "Two-byte fields have the low byte first."
