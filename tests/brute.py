@@ -293,13 +293,17 @@ def take_word(house, data, at):
     if at >= len(data):
         raise BrokenList("cut short before a word")
     length = data[at]
-    if not 1 <= length <= house.longest:
-        raise BrokenList("a word's length is out of range")
+    if length == 0:
+        raise BrokenList("a word of length 0")
+    if length > house.longest:
+        raise BrokenList("a word longer than D")
     word = tuple(data[at + 1:at + 1 + length])
     if len(word) < length:
         raise BrokenList("cut short in a word")
-    if not all(is_symbol(house, symbol) for symbol in word):
-        raise BrokenList("a symbol is outside L or the language")
+    for symbol in word:
+        if not is_symbol(house, symbol):
+            high = symbol // 4 >= house.labels
+            raise BrokenList("a label too high" if high else "a kind not of the language")
     return word, at + 1 + length
 
 
@@ -442,23 +446,41 @@ def next_word_reply(known, u, v, word, output):
 
 
 def call_permit(data, listed, u, v):
-    number = check(data)
-    if number:
-        return ("refused", number)
-    house = decode(data)
-    if not is_pair(house, u, v):
+    return permit_reply(Known(data), u, v, listed)
+
+
+def permit_reply(known, u, v, listed):
+    """The same for a file of which something is known."""
+    if known.refusal:
+        return ("refused", known.refusal)
+    if not is_pair(known.house, u, v):
         return ("refused", 10)
     try:
-        terms = decode_list(house, listed)
+        terms = decode_list(known.house, listed)
     except BrokenList:
         return ("refused", 9)
-    return ("yes",) if permits_by(terms, words(house, u, v)) else ("no",)
+    return ("yes",) if permits_by(terms, known.least_paths(u, v)) else ("no",)
 
 
 # --------------------------------------------------------- program permitconv
 
 def word_text(word):
     return ".".join("%02X" % symbol for symbol in word)
+
+
+def list_text(terms):
+    """A line for each term."""
+    return "".join(" & ".join(word_text(word) for word in term) + "\n" for term in terms)
+
+
+def text_reply(known, listed):
+    """("text", the list's text), or refused: the file's number, else 9."""
+    if known.refusal:
+        return ("refused", known.refusal)
+    try:
+        return ("text", list_text(decode_list(known.house, listed)))
+    except BrokenList:
+        return ("refused", 9)
 
 
 def permitconv(data, room=PROGRAM_LIST):
@@ -477,6 +499,4 @@ def permitconv(data, room=PROGRAM_LIST):
     text = "convertible %d\n" % answer[1]
     if answer[1] > room:
         return text + "refused 14\n"
-    for term in mine(house, table):
-        text += " & ".join(word_text(word) for word in term) + "\n"
-    return text
+    return text + list_text(mine(house, table))

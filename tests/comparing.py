@@ -107,22 +107,28 @@ def compare(texts, output):
     return differing, found, len(replies) - len(texts)
 
 
+def shortened(data):
+    """The first bytes in hexadecimal, and how many there are where some are left out."""
+    more = " ... (%d bytes)" % len(data) if len(data) > HEX_SHOWN else ""
+    return data[:HEX_SHOWN].hex(" ").upper() + more
+
+
 def show_difference(case, found):
     parts = script.parts_of(case.frame)
     print("difference in %s" % script.NAMES[parts.call])
-    if parts.given:
+    if parts.call in (script.PATH, script.NEXT_WORD):
         print("  pair: %d %d  given: %s  output lent: %d" % (
-            parts.first, parts.second, parts.given.hex(" ").upper(),
-            len(parts.output) - 2 * script.GUARD))
-    more = " ... (%d bytes)" % len(parts.data) if len(parts.data) > HEX_SHOWN else ""
-    print("  file: %s%s" % (parts.data[:HEX_SHOWN].hex(" ").upper(), more))
+            parts.first, parts.second, shortened(parts.given), len(parts.output) - 2 * script.GUARD))
+    elif parts.call in (script.PERMIT, script.TEXT):
+        print("  pair: %d %d  list: %s" % (parts.first, parts.second, shortened(parts.given)))
+    print("  file: %s" % shortened(parts.data))
     wanted_lines, found_lines = case.text.splitlines(), found.splitlines()
     shown = 0
     for i in range(max(len(wanted_lines), len(found_lines))):
         wanted = wanted_lines[i] if i < len(wanted_lines) else "(no line)"
         got = found_lines[i] if i < len(found_lines) else "(no line)"
         if wanted != got and shown < LINES_SHOWN:
-            print("  line %d expected: %s" % (i + 1, wanted))
+            print("  line %d expected: %s" % (i + 1, wanted[:400]))
             print("  line %d printed:  %s" % (i + 1, got[:400]))
             shown += 1
     if shown == 0:

@@ -499,12 +499,12 @@ def lacking(collection, large_cases):
     return lines
 
 
-def account_text(account):
-    """How often each thing occurs: a line for each call, and one for the walks."""
+def account_text(account, others="walks"):
+    """How often each thing occurs: a line for each call, and one for the others."""
     lines = {}
     for name, times in sorted(account.items()):
         call, _, what = name.rpartition(": ")
-        lines.setdefault(call or "walks", []).append("%s %d times" % (what, times))
+        lines.setdefault(call or others, []).append("%s %d times" % (what, times))
     return "\n".join("%s: %s" % (call, "; ".join(parts)) for call, parts in lines.items())
 
 

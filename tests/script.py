@@ -11,6 +11,9 @@ symbols, of which those past the length mean nothing. 16 guard bytes stand
 before the output's old bytes and 16 after them; they aren't counted in the
 output's length and aren't lent. The reply's second line has all of these bytes
 after the call.
+
+For permit and text the given bytes are a rule list; nothing is lent. Text has
+no parties; its reply shows the bytes of the list's text in hexadecimal.
 """
 
 import struct
@@ -22,14 +25,18 @@ LONGEST_FILE_IN_FRAME = 60000
 LONGEST_OUTPUT = 100
 GUARD = 16
 SYMBOLS_GIVEN = 31
+LONGEST_LIST = 20000
 
 CHECK = "c"
 DECODE = "d"
 PATH = "p"
 NEXT_WORD = "n"
+PERMIT = "r"
+TEXT = "x"
 
 # Each reply begins with a line that begins with one of these.
-NAMES = {CHECK: "check", DECODE: "decode", PATH: "path", NEXT_WORD: "next-word"}
+NAMES = {CHECK: "check", DECODE: "decode", PATH: "path", NEXT_WORD: "next-word",
+         PERMIT: "permit", TEXT: "text"}
 
 # A frame's bytes, and the lines that are its reply.
 Case = namedtuple("Case", "frame text")
@@ -54,6 +61,13 @@ def word_frame(call, data, first, second, given, output):
     if len(given) != 1 + SYMBOLS_GIVEN or not 0 <= len(output) - 2 * GUARD <= LONGEST_OUTPUT:
         raise ValueError("not a frame of path or next-word")
     return frame(call, data, first, second, given, output, guard=GUARD)
+
+
+def list_frame(call, data, listed, first=0, second=0):
+    """The frame of a permit or text call."""
+    if len(listed) > LONGEST_LIST:
+        raise ValueError("rule list too long for a frame")
+    return frame(call, data, first, second, listed)
 
 
 def parts_of(frame_bytes):
@@ -143,3 +157,15 @@ def word_text(call, reply, after):
     else:
         answer = "%d" % reply[1]
     return "%s %s\noutput %s\n" % (NAMES[call], answer, after.hex().upper())
+
+
+def permit_text(reply):
+    """The line of permit for this reply."""
+    return "permit refused %d\n" % reply[1] if reply[0] == "refused" else "permit %s\n" % reply[0]
+
+
+def list_text(reply):
+    """The line of text for this reply; the empty list's has nothing after its blank."""
+    if reply[0] == "refused":
+        return "text refused %d\n" % reply[1]
+    return "text %s\n" % reply[1].encode("ascii").hex().upper()

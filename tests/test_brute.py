@@ -17,6 +17,7 @@ import comparing
 import files
 import large
 import run_paths
+import run_permit
 import script
 import stored
 
@@ -848,6 +849,81 @@ class WordCalls(unittest.TestCase):
             self.assertEqual(script.word_text(call, reply, after), self.lines(name + " refused 1", ""))
 
 
+class ListCalls(unittest.TestCase):
+    """The expected lines of permit and of the text of a list."""
+
+    def permit(self, letter, text, first, second):
+        return script.permit_text(brute.permit_reply(brute.Known(case_file(letter)), first, second, hexadecimal(text)))
+
+    def text(self, letter, text):
+        return script.list_text(brute.text_reply(brute.Known(case_file(letter)), hexadecimal(text)))
+
+    def test_frames_by_hand(self):
+        frame = script.list_frame("r", b"\x01\x02", b"\x00\x00\x05", 3, 4)
+        self.assertEqual(frame, b"r\x03\x04\x00" + struct.pack("<5I", 2, 3, 0, 0, 0) + b"\x01\x02\x00\x00\x05")
+        self.assertEqual(script.parts_of(frame), ("r", 3, 4, b"\x01\x02", b"\x00\x00\x05", b"", b""))
+        self.assertEqual(script.list_frame("x", b"", b"\x00\x00"),
+                         b"x\x00\x00\x00" + struct.pack("<5I", 0, 2, 0, 0, 0) + b"\x00\x00")
+        script.list_frame("x", b"", bytes(20000))
+        with self.assertRaises(ValueError):
+            script.list_frame("x", b"", bytes(20001))
+
+    def test_permit_lines(self):
+        self.assertEqual(self.permit("A", LISTS["A"], 0, 2), "permit yes\n")
+        self.assertEqual(self.permit("A", LISTS["A"], 0, 1), "permit no\n")
+        self.assertEqual(self.permit("A", "00 00", 0, 2), "permit no\n")
+        self.assertEqual(self.permit("A", LISTS["A"] + " 00", 0, 2), "permit refused 9\n")
+        self.assertEqual(self.permit("A", "", 1, 1), "permit refused 10\n")
+        self.assertEqual(self.permit("A", "", 0, 3), "permit refused 10\n")
+        self.assertEqual(script.permit_text(brute.permit_reply(brute.Known(b""), 9, 9, b"")), "permit refused 1\n")
+
+    def test_text_lines(self):
+        self.assertEqual(self.text("A", LISTS["A"]), "text 30302E30300A\n")
+        self.assertEqual(bytes.fromhex("30302E30300A"), b"00.00\n")
+        self.assertEqual(self.text("H", LISTS["H"]), "text 303020262030340A\n")
+        self.assertEqual(bytes.fromhex("303020262030340A"), b"00 & 04\n")
+        self.assertEqual(self.text("A", "02 00 01 00 01 00 01 00 02 00 00"),
+                         "text %s\n" % b"00\n00.00\n".hex().upper())
+        self.assertEqual(self.text("A", "00 00"), "text \n")
+        self.assertEqual(self.text("A", ""), "text refused 9\n")
+        self.assertEqual(self.text("D", LISTS["A"]), "text refused 9\n")
+        self.assertEqual(self.text("A", LISTS["G"]), "text refused 9\n")
+        self.assertEqual(self.text("A", LISTS["H"]), "text refused 9\n")
+        self.assertEqual(script.list_text(brute.text_reply(brute.Known(b""), b"")), "text refused 1\n")
+        self.assertEqual(brute.list_text([[(0x1F, 0x0A)]]), "1F.0A\n")
+
+    def test_replies_are_told_apart(self):
+        texts = ["text \n", "permit yes\n", "text 30300A\n", "permit refused 9\n", "text refused 9\n"]
+        self.assertEqual(comparing.compare(texts, "".join(texts)), ([], texts, 0))
+        for text in texts:
+            self.assertEqual(comparing.compare([text], "")[0], [0])
+        self.assertEqual(comparing.compare(["text \n"], "text\n")[0], [0])
+
+    def test_every_byte_of_a_list_is_changed(self):
+        listed = hexadecimal(LISTS["H"])
+        changed = list(run_permit.byte_by_byte(random.Random(5), listed))
+        self.assertEqual(len(changed), 3 * len(listed) + 2)
+        self.assertNotIn(listed, changed)
+        for at in range(len(listed)):
+            self.assertIn(listed[:at], changed)
+            self.assertEqual(sum(len(one) == len(listed) and one[at] != listed[at] for one in changed), 2)
+
+    def test_faults_are_named(self):
+        house = brute.decode(case_file("A"))
+        for text, terms, fault in (
+                ("01 00 01 00 02 00 00", [[(0, 0)]], None),
+                ("02 00 01 00 01 00 01 00 00", [[(0,)]], "a word of length 0"),
+                ("02 00 01 00 01 00 01 00 03 00 00 00", [[(0,)]], "a word longer than D"),
+                ("01 00 01 00 01 01", [], "a kind not of the language"),
+                ("01 00 01 00 01 04", [], "a label too high"),
+                ("01 00 01 00 01 00 00", [[(0,)]], "bytes follow the last term"),
+                ("02 00 01 00 01 00 00 00", [[(0,)]], "a term of no words"),
+                ("01", [], "cut short in a number"),
+                ("01 00 02 00 01 00", [], "cut short before a word"),
+                ("01 00 01 00 02 00", [], "cut short in a word")):
+            self.assertEqual(run_permit.until_fault(house, hexadecimal(text)), (terms, fault), text)
+
+
 class LargerFiles(unittest.TestCase):
 
     def listing_answer(self, known, call):
@@ -950,6 +1026,8 @@ class Running(unittest.TestCase):
     def test_every_demand_is_missed_by_nothing(self):
         lines = run_paths.lacking(run_paths.Collection(random.Random(1)), [])
         self.assertEqual(len(lines), len(run_paths.DEMANDS) + 2)
+        lines = run_permit.lacking(run_permit.Collection(random.Random(1)))
+        self.assertEqual(len(lines), len(run_permit.DEMANDS) + 2)
 
 
 if __name__ == "__main__":
