@@ -9,6 +9,7 @@ lines stand below as text; brute.py is only asked whether it agrees.
 import os
 import sys
 
+import brute
 import script
 
 ZERO_MASK = " 00000000"
@@ -319,13 +320,125 @@ ROWS = [
 ]
 
 
+A = "01 03 01 00 02 00 03 00  01 00 03 00 00 00  01 00 02 00  02 FF 00 00  02 00 00 00"
+A_ALL_KINDS = "01 03 01 03 02 00 03 00  01 00 03 00 00 00  01 00 02 00  02 FF 00 00  02 00 00 00"
+A_HEAD_1_ZERO = "01 03 01 00 02 00 03 00  01 00 00 00 00 00  01 00 02 00  02 FF 00 00  02 00 00 00"
+
+# Each row: the call, the file, the pair, the given word, the output's length, the
+# expected answer, the bytes that the output then begins with. The rest is kept.
+WORD_ROWS = [
+    ("p", A, (0, 2), "00 00", 3, "3", "00 01 02"),
+    ("p", A, (0, 2), "00 00", 9, "3", "00 01 02"),
+    ("p", A, (0, 2), "00 00", 2, "refused 14", ""),
+    ("p", A, (0, 2), "00", 2, "none", ""),
+    ("p", A, (0, 2), "00", 1, "refused 14", ""),
+    ("p", A, (2, 0), "00 00", 3, "none", ""),
+    ("p", A, (0, 2), "", 3, "refused 11", ""),
+    ("p", A, (0, 2), "01", 3, "refused 11", ""),
+    ("p", A, (0, 2), "04", 3, "refused 11", ""),
+    ("p", A, (0, 2), "00 00 00", 3, "refused 11", ""),
+    ("p", A, (0, 0), "04", 3, "refused 10", ""),
+    ("p", A, (0, 3), "00", 3, "refused 10", ""),
+    ("p", A_HEAD_1_ZERO, (0, 3), "00", 3, "refused 5", ""),
+    ("p", A_ALL_KINDS, (2, 0), "02 02", 3, "3", "02 01 00"),
+    ("p", A_ALL_KINDS, (0, 1), "01 00", 3, "none", ""),
+    ("p", A_ALL_KINDS, (0, 1), "01 02", 3, "3", "00 02 01"),
+    ("n", A, (0, 2), "", 31, "2", "00 00"),
+    ("n", A, (0, 2), "00", 31, "2", "00 00"),
+    ("n", A, (0, 2), "00 00", 31, "none", ""),
+    ("n", A, (2, 0), "", 31, "none", ""),
+    ("n", A, (2, 0), "", 30, "refused 14", ""),
+    ("n", A, (0, 2), "01", 30, "refused 11", ""),
+    ("n", A, (1, 1), "01", 30, "refused 10", ""),
+    ("n", A_HEAD_1_ZERO, (1, 1), "01", 30, "refused 5", ""),
+    ("n", A_ALL_KINDS, (0, 2), "", 31, "1", "01"),
+    ("n", A_ALL_KINDS, (0, 2), "01", 32, "1", "03"),
+    ("n", A_ALL_KINDS, (0, 2), "03", 31, "2", "00 00"),
+    ("n", A_ALL_KINDS, (0, 2), "00 01", 31, "2", "00 03"),
+    ("n", A_ALL_KINDS, (0, 2), "03 00", 31, "2", "03 03"),
+    ("n", A_ALL_KINDS, (0, 2), "03 03", 31, "none", ""),
+]
+
+# Each row: the call, the file, the pair, the rule list, the expected line.
+LIST_ROWS = [
+    ("r", A, (0, 2), "00 00", "permit no"),
+    ("r", A, (0, 2), "01 00  01 00  02 00 00", "permit yes"),
+    ("r", A, (0, 1), "01 00  01 00  02 00 00", "permit no"),
+    ("r", A, (0, 1), "01 00  02 00  01 00  02 00 00", "permit no"),
+    ("r", A, (0, 1), "02 00  01 00  02 00 00  01 00  01 00", "permit yes"),
+    ("r", A, (0, 2), "02 00  01 00  02 00 00  00 00", "refused 9"),
+    ("r", A, (0, 2), "02 00  01 00  02 00 00  01 00  01 01", "refused 9"),
+    ("r", A, (0, 2), "01 00  01 00  02 00 00  00", "refused 9"),
+    ("r", A, (0, 2), "01 00  01 00  02 00", "refused 9"),
+    ("r", A, (0, 2), "01 00  01 00  00", "refused 9"),
+    ("r", A, (0, 2), "01 00  01 00  03 00 00 00", "refused 9"),
+    ("r", A, (0, 2), "", "refused 9"),
+    ("r", A, (2, 2), "", "refused 10"),
+    ("r", A_HEAD_1_ZERO, (2, 2), "", "refused 5"),
+    ("x", A, (0, 0), "00 00", "text "),
+    ("x", A, (0, 0), "02 00  02 00  01 00  02 00 00  01 00  01 00",
+     "text 30 30 20 26 20 30 30 2E 30 30 0A  30 30 0A"),
+    ("x", A, (0, 0), "01 00  00 00", "refused 9"),
+    ("x", A_HEAD_1_ZERO, (0, 0), "01 00  00 00", "refused 5"),
+]
+
+# Old bytes of an output, and of its guards.
+OLD, FENCE = b"\xEE", b"\xDD"
+
+
 def file_of(row):
     return bytes.fromhex(row[2])
 
 
+def file_case(row):
+    """The frame and the lines of a row of ROWS."""
+    return script.Case(script.frame(row[1], file_of(row)), row[3])
+
+
+def word_case(row):
+    """The frame and the lines of a row of WORD_ROWS."""
+    call, data, pair, word, room, answer, begins = row
+    symbols = bytes.fromhex(word)
+    given = script.given_bytes(len(symbols), symbols.ljust(script.SYMBOLS_GIVEN, b"\xBB"))
+    fence = script.GUARD * FENCE
+    frame = script.word_frame(call, bytes.fromhex(data), *pair, given, fence + room * OLD + fence)
+    after = fence + bytes.fromhex(begins).ljust(room, OLD) + fence
+    return script.Case(frame, "%s %s\noutput %s\n" % (script.NAMES[call], answer, after.hex().upper()))
+
+
+def list_case(row):
+    """The frame and the lines of a row of LIST_ROWS."""
+    call, data, pair, listed, line = row
+    if line.startswith("refused"):
+        line = "%s %s" % (script.NAMES[call], line)
+    elif line.startswith("text"):
+        line = "text " + line[4:].replace(" ", "")
+    return script.Case(script.list_frame(call, bytes.fromhex(data), bytes.fromhex(listed), *pair), line + "\n")
+
+
+def cases():
+    """All rows, as frames and their lines."""
+    return ([file_case(row) for row in ROWS] + [word_case(row) for row in WORD_ROWS]
+            + [list_case(row) for row in LIST_ROWS])
+
+
+def reckoned(frame):
+    """The lines that brute.py gives for a frame."""
+    parts = script.parts_of(frame)
+    known = brute.Known(parts.data)
+    if parts.call in (script.PATH, script.NEXT_WORD):
+        return script.word_text(parts.call, *script.word_reply(
+            parts.call, known, parts.first, parts.second, parts.given, parts.output))
+    if parts.call == script.PERMIT:
+        return script.permit_text(brute.permit_reply(known, parts.first, parts.second, parts.given))
+    if parts.call == script.TEXT:
+        return script.list_text(brute.text_reply(known, parts.given))
+    return script.expected(parts.call, parts.data)
+
+
 def disagreements():
     """The rows whose expected lines brute.py does not give."""
-    return [row for row in ROWS if script.expected(row[1], file_of(row)) != row[3]]
+    return [case for case in cases() if reckoned(case.frame) != case.text]
 
 
 def main(arguments):
@@ -333,16 +446,18 @@ def main(arguments):
         print("usage: stored.py OUTDIR")
         return 1
     wrong = disagreements()
-    for row in wrong:
-        print("brute.py does not agree: %s, call %s" % (row[0], row[1]))
+    for case in wrong:
+        print("brute.py does not agree: %s, row says %r, brute.py %r"
+              % (script.parts_of(case.frame), case.text, reckoned(case.frame)))
     if wrong:
         return 1
+    stored = cases()
     os.makedirs(arguments[1], exist_ok=True)
     with open(os.path.join(arguments[1], "stdin"), "wb") as out:
-        out.writelines(script.frame(row[1], file_of(row)) for row in ROWS)
+        out.writelines(case.frame for case in stored)
     with open(os.path.join(arguments[1], "stdout"), "wb") as out:
-        out.write("".join(row[3] for row in ROWS).encode("ascii"))
-    print("%d rows written" % len(ROWS))
+        out.write("".join(case.text for case in stored).encode("ascii"))
+    print("%d rows written" % len(stored))
     return 0
 
 
