@@ -1,0 +1,32 @@
+// The first word of a pair that another pair lacks.
+ghost use Rattle.rebac.specs.Matter.{Matter, IsPair, pair};
+ghost use Rattle.rebac.specs.Existence.{problemOf};
+ghost use Rattle.rebac.specs.NextWord.{pairWords};
+ghost use Rattle.rebac.specs.Mining.{lacks};
+ghost use Rattle.lists.specs.Lists.{firstBy};
+ghost use Rattle.graph.specs.Archive.{Shows};
+ghost use Rattle.paths.specs.Word.{Short};
+ghost use Rattle.paths.specs.Next.{NextAs};
+use graph::Archive;
+use paths::Next;
+use paths::Word;
+
+// The words of the pair (first, second) in order, up to the first that (u, v) lacks.
+pub fn first_lacked(a: Archive, first: usize, second: usize, u: usize, v: usize) -> Next
+    requires { ⌜ IsPair (a .parties) (pair first second) × (IsPair (a .parties) (pair u v) × ((M : Matter) × Shows M a)) ⌝ }
+    ensures { λ r. ⌜ Short (r .word) × ((M : Matter) → Shows M a → NextAs (firstBy (lacks (problemOf M) (pair first second) (pair u v)) (pairWords M (pair first second))) r) ⌝ }
+{
+    let empty = Word {
+        len: 0,
+        symbols: [0u8; 31],
+    };
+    let mut c = paths::next_word(a.graph, a.parties, first, second, a.longest, empty);
+    while c.found {
+        let w = c.word;
+        if !paths::has_word(a.graph, a.parties, u, v, w) {
+            return c;
+        }
+        c = paths::next_word(a.graph, a.parties, first, second, a.longest, w);
+    }
+    c
+}
