@@ -1,1 +1,2 @@
 pub mod LackedLaws
+pub mod TermLaws

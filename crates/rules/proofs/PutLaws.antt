@@ -1,7 +1,7 @@
 -- Writing piece after piece is writing the pieces joined. Assumes nothing.
 use mathlib.Core.Path.{_≡_, sym, ap, _∙_}
 use mathlib.Core.List.{List, [], _∷_, _++_, append-assoc}
-use Prim.Native.Nat.{ℕ, _+_, _≤_, _<_}
+use Prim.Native.Nat.{ℕ, _+_, _-_, _≤_, _<_}
 use native.Mathlib.Omega.{arith}
 use native.Mathlib.Numerals.{add-one}
 use lib.ListN.{length, take, drop, getD, set, length-append, length-drop, take-append-drop}
@@ -77,3 +77,22 @@ put-before b at x y h =
     let t : take at (put b (at + length x) y) ≡ take at b = take-append-le at (take (at + length x) b) (y ++ drop (at + length x + length y) b) (omega arith) ∙ take-take at (at + length x) b (omega arith) in
     let d : drop (at + length x) (put b (at + length x) y) ≡ y ++ drop (at + length (x ++ y)) b = drop-at (take (at + length x) b) (y ++ drop (at + length x + length y) b) (at + length x) m ∙ ap (λ (k : ℕ). y ++ drop k b) n in
     rw (t, d) (ap (λ (l : List ℕ). take at b ++ l) (sym (append-assoc x y (drop (at + length (x ++ y)) b))))
+
+-- a piece written over a shorter one leaves nothing of it
+pub put-over : (b : List ℕ) (at : ℕ) (x y : List ℕ) → at ≤ length b → length x ≤ length y → put (put b at x) at y ≡ put b at y
+unfolding put
+put-over b at x y h k =
+    let t : take at (put b at x) ≡ take at b = take-append-le at (take at b) (x ++ drop (at + length x) b) (omega (arith, length-take-le at b h)) ∙ take-take at at b (omega arith) in
+    let d : drop (at + length x) (put b at x) ≡ drop (at + length x) b = ap (drop (at + length x)) (put-split b at x) ∙ drop-at (take at b ++ x) (drop (at + length x) b) (at + length x) (front-length b at x h) in
+    let n : at + length x + (length y - length x) ≡ at + length y = omega arith in
+    let r : drop (at + length y) (put b at x) ≡ drop (at + length y) b =
+    ap (λ (m : ℕ). drop m (put b at x)) (sym n) ∙ sym (drop-drop (length y - length x) (at + length x) (put b at x)) ∙ ap (drop (length y - length x)) d ∙ drop-drop (length y - length x) (at + length x) b ∙ ap (λ (m : ℕ). drop m b) n in
+    rw (t, r)
+
+-- what follows a count is kept where the count is written anew
+pub put-recount : (b : List ℕ) (at : ℕ) (x z y : List ℕ) → length x ≡ length z → at + length x + length y ≤ length b → put (put b at (x ++ y)) at z ≡ put b at (z ++ y)
+put-recount b at x z y e h =
+    let p : put b at (x ++ y) ≡ put (put b at x) (at + length z) y = sym (put-put b at x y (omega arith)) ∙ ap (λ (k : ℕ). put (put b at x) (at + k) y) e in
+    ap (λ (l : List ℕ). put l at z) p
+    ∙ put-before (put b at x) at z y (omega (arith, put-length b at x (omega arith)))
+    ∙ put-over b at x (z ++ y) (omega arith) (omega (arith, length-append z y))

@@ -1,0 +1,26 @@
+-- A term's bytes with one word more: the word after them, and the count written anew.
+use mathlib.Core.Path.{_≡_, sym, ap, _∙_}
+use mathlib.Core.List.{List, [], _∷_, _++_, append-assoc}
+use Prim.Native.Nat.{ℕ, _+_, _≤_}
+use native.Mathlib.Omega.{arith}
+use lib.ListN.{length, length-append}
+use Rattle.lists.specs.Lists.{flatMap}
+use Rattle.rules.specs.ListBytes.{encodeCount, encodeWord, encodeTerm}
+use Rattle.rules.specs.Writing.{put}
+use Rattle.rules.proofs.RoundTrip.{count-size, words-more}
+use Rattle.rules.proofs.PutLaws.{put-put, put-recount}
+
+pub term-more : (b : List ℕ) (at : ℕ) (t : List (List ℕ)) (w : List ℕ) → at + length (encodeTerm t) + length (encodeWord w) ≤ length b
+    → put (put (put b at (encodeTerm t)) (at + length (encodeTerm t)) (encodeWord w)) at (encodeCount (length t + 1)) ≡ put b at (encodeTerm (t ++ (w ∷ [])))
+unfolding encodeTerm
+term-more b at t w h =
+    let C = encodeCount (length t) in
+    let N = encodeCount (length t + 1) in
+    let F = flatMap encodeWord t in
+    let n : length (t ++ (w ∷ [])) ≡ length t + 1 = length-append t (w ∷ []) in
+    let s : length (C ++ F) ≡ length C + length F = length-append C F in
+    let r : length (F ++ encodeWord w) ≡ length F + length (encodeWord w) = length-append F (encodeWord w) in
+    ap (λ (l : List ℕ). put l at N) (put-put b at (C ++ F) (encodeWord w) (omega arith) ∙ ap (put b at) (append-assoc C F (encodeWord w)))
+    ∙ put-recount b at C N (F ++ encodeWord w) (count-size (length t) ∙ sym (count-size (length t + 1))) (omega (arith, s, r))
+    ∙ ap (λ (l : List ℕ). put b at (N ++ l)) (sym (words-more t w))
+    ∙ ap (λ (k : ℕ). put b at (encodeCount k ++ flatMap encodeWord (t ++ (w ∷ [])))) (sym n)
