@@ -47,18 +47,27 @@ def expected_paths(n, longest, per_step):
     return total
 
 
-def small_matter(rng, most_paths):
-    """Matter with n up to 6 and few enough paths; permits are there and must not matter."""
-    all_symbols = rng.random() < 0.04
+def few_paths(rng, most_paths, draw):
+    """Matter of the first drawn (n, labels, language, longest, part) with few enough paths."""
     while True:
-        n = rng.choice([1, 2, 2, 3, 3, 3, 4, 4, 4, 4, 5, 5, 5, 5, 6, 6, 6, 6])
-        labels = 8 if all_symbols else rng.choice([1, 1, 1, 2, 2, 3, rng.randint(1, 8), 8])
-        language = 3 if all_symbols else rng.randint(0, 3)
-        longest = rng.randint(9, 31) if rng.random() < 0.12 else rng.randint(1, 8)
-        part = rng.choice([0.15, 0.3, 0.5, 0.5, 0.7, 1.0])
+        n, labels, language, longest, part = draw()
         held = {0: part, 1: 1, 2: 2 * part, 3: 2}[language]
         if expected_paths(n, longest, labels * held) <= most_paths:
             return matter_with(rng, n, labels, language, longest, part)
+
+
+def small_matter(rng, most_paths):
+    """Matter with n up to 6 and few enough paths; permits are there and must not matter."""
+    all_symbols = rng.random() < 0.04
+
+    def draw():
+        return (rng.choice([1, 2, 2, 3, 3, 3, 4, 4, 4, 4, 5, 5, 5, 5, 6, 6, 6, 6]),
+                8 if all_symbols else rng.choice([1, 1, 1, 2, 2, 3, rng.randint(1, 8), 8]),
+                3 if all_symbols else rng.randint(0, 3),
+                rng.randint(9, 31) if rng.random() < 0.12 else rng.randint(1, 8),
+                rng.choice([0.15, 0.3, 0.5, 0.5, 0.7, 1.0]))
+
+    return few_paths(rng, most_paths, draw)
 
 
 def matter_with(rng, n, labels, language, longest, part):
@@ -493,10 +502,13 @@ def lacking(collection, large_cases):
         lines.append("only %d different files" % len(collection.files))
     if len(large_cases) < FEWEST_LARGE:
         lines.append("only %d frames of larger files" % len(large_cases))
-    for name, fewest in DEMANDS.items():
-        if collection.account[name] < fewest:
-            lines.append("only %d times %s" % (collection.account[name], name))
-    return lines
+    return lines + unmet(collection.account, DEMANDS)
+
+
+def unmet(account, demands):
+    """The demands on how often things occur that are not met, as lines of text."""
+    return ["only %d times %s" % (account[name], name) for name, fewest in demands.items()
+            if account[name] < fewest]
 
 
 def account_text(account, others="walks"):

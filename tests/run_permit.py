@@ -33,16 +33,14 @@ TEXT_PART = 1 / 3
 
 def small_matter(rng, most_paths=None):
     """Matter with n and D up to 6 (D 31 a few times) and few enough paths."""
-    most_paths = most_paths or rng.choice([150, 400, 1200])
-    while True:
-        n = rng.choice([1, 2, 2, 3, 3, 3, 4, 4, 4, 4, 5, 5, 5, 6, 6, 6])
-        labels = rng.choice([1, 1, 1, 2, 2, 3, rng.randint(1, 8), 8])
-        language = rng.randint(0, 3)
-        longest = 31 if rng.random() < 0.05 else rng.randint(1, 6)
-        part = rng.choice([0.15, 0.3, 0.5, 0.5, 0.7])
-        held = {0: part, 1: 1, 2: 2 * part, 3: 2}[language]
-        if run_paths.expected_paths(n, longest, labels * held) <= most_paths:
-            return run_paths.matter_with(rng, n, labels, language, longest, part)
+    def draw():
+        return (rng.choice([1, 2, 2, 3, 3, 3, 4, 4, 4, 4, 5, 5, 5, 6, 6, 6]),
+                rng.choice([1, 1, 1, 2, 2, 3, rng.randint(1, 8), 8]),
+                rng.randint(0, 3),
+                31 if rng.random() < 0.05 else rng.randint(1, 6),
+                rng.choice([0.15, 0.3, 0.5, 0.5, 0.7]))
+
+    return run_paths.few_paths(rng, most_paths or rng.choice([150, 400, 1200]), draw)
 
 
 def with_pairs(rng, most_paths=None):
@@ -467,10 +465,7 @@ def lacking(collection):
         lines.append("only %d different files" % len(collection.files))
     if len(collection.lists) < FEWEST_LISTS:
         lines.append("only %d different lists" % len(collection.lists))
-    for name, fewest in DEMANDS.items():
-        if collection.account[name] < fewest:
-            lines.append("only %d times %s" % (collection.account[name], name))
-    return lines
+    return lines + run_paths.unmet(collection.account, DEMANDS)
 
 
 # ------------------------------------------------------------------- the run

@@ -6,30 +6,32 @@ use mathlib.Core.Option.{none, some}
 use Prim.Native.Nat.{ℕ, suc, _≤_, _<_}
 use native.Mathlib.Omega.{arith}
 use lib.ListN.{length}
-use Rattle.lists.specs.Lists.{firstBy}
+use Rattle.lists.specs.Lists.{firstBy, filterBy}
 use Rattle.lists.proofs.Cases.{by-test}
-use Rattle.rebac.specs.Matter.{Matter, Pair, IsPair, pair}
+use Rattle.rebac.specs.Matter.{Matter, Pair}
 use Rattle.rebac.specs.Paths.{has}
-use Rattle.rebac.specs.Symbols.{alphabet, enlarged}
-use Rattle.rebac.specs.Forms.{searchNext}
+use Rattle.rebac.specs.Symbols.{alphabet, enlarged, capOf}
+use Rattle.rebac.specs.Words.{before, wordsUpTo}
 use Rattle.rebac.specs.Verdict.{wordsOf}
 use Rattle.rebac.specs.Mining.{lacks}
 use Rattle.rebac.specs.Existence.{problemOf, problemOver, matterWords}
 use Rattle.rebac.specs.NextWord.{pairWords, nextWord, wordsLeft, firstAfter}
 use Rattle.rebac.proofs.Conversion.{score-one}
-use Rattle.rebac.proofs.MatterLaws.{next-search-equal}
 use Rattle.rebac.proofs.NextWordLaws.{next-finds, first-after-start, first-after-none, first-after-here, first-after-next, words-left-fall}
 use Rattle.graph.specs.declared.Archive.{Archive}
 use Rattle.graph.specs.Archive.{Shows}
-use Rattle.paths.specs.declared.word.Word.{Word as WordValue}
 use Rattle.paths.specs.declared.next.Next.{Next}
 use Rattle.paths.specs.Word.{symbolsIn, Short}
-use Rattle.paths.specs.Ask.{tableGraph, Query}
-use Rattle.paths.specs.Next.{Alphabet, NextAs}
+use Rattle.paths.specs.Ask.{tableGraph}
+use Rattle.paths.specs.Next.{NextAs}
 use Rattle.paths.proofs.SearchLaws.{symbols-length}
 use Rattle.paths.proofs.NextLaws.{next-not, next-some, next-as}
-use Rattle.paths.proofs.CallLaws.{shown-graph, shown-alphabet}
-use Rattle.mining.specs.WordsLeft.{wordsLeftIn}
+use Rattle.paths.proofs.CallLaws.{shown-graph}
+
+-- how many words of the pair stand after a word, told from the archive: the measure of going through them
+unfoldable pub wordsLeftIn : Archive → Pair → List ℕ → ℕ
+wordsLeftIn a p w =
+    length (filterBy (before w) (wordsOf (problemOver (tableGraph (a .parties) (a .graph)) (capOf (a .language)) (wordsUpTo (alphabet (a .language) (a .labels)) (a .longest)) (λ q. false)) p))
 
 -- the word in hand and the words after it
 abbrev pub leftWith : Archive → Pair → Bool → List ℕ → ℕ
@@ -49,14 +51,6 @@ module _ (M : Matter) (a : Archive) (S : Shows M a) where
   pub words-left-in : (p : Pair) (w : List ℕ) → wordsLeftIn a p w ≡ wordsLeft M p w
   unfolding wordsLeftIn wordsLeft pairWords wordsOf problemOf problemOver matterWords
   words-left-in p w = rw (shown-graph M a S, S .language, S .labels, S .longest) refl
-
-  -- the searches over the archive give the matter's next word
-  pub next-shown : (p : Pair) (w : WordValue) → Short w → w .len ≤ a .longest → (r : Next) → ((al : List ℕ) → Alphabet al (a .parties) (a .graph) → NextAs (searchNext al (tableGraph (a .parties) (a .graph)) p (a .longest) (symbolsIn w)) r) → NextAs (nextWord M p (symbolsIn w)) r
-  next-shown p w s l r f =
-      let z : length (symbolsIn w) ≡ w .len = symbols-length w (omega (arith, s .len, s .full)) in
-      let e = next-search-equal M (tableGraph (a .parties) (a .graph)) (S .parties) (S .graph) p (symbolsIn w) (omega (arith, z, l, S .longest)) in
-      let q = f (alphabet (M .language) (M .labels)) (shown-alphabet M a S) in
-      rw (S .longest, e) at q
 
   -- a word of the pair is lacked exactly where the other pair has it not
   pub lacks-not : (p q : Pair) (w : List ℕ) → has (enlarged M) p w ≡ true → lacks (problemOf M) p q w ≡ not (has (enlarged M) q w)
@@ -99,11 +93,6 @@ module _ (M : Matter) (a : Archive) (S : Shows M a) where
       let k = words-left-fall M p (symbolsIn (c .word)) (symbolsIn (r .word)) (v .1 .0 ∙ ap some (sym (v .1 .1))) in
       rw (e, y, words-left-in p (symbolsIn (c .word)), words-left-in p (symbolsIn (r .word))) (omega (arith, k)))
       (λ y. rw (e, y) (omega arith))
-
-  -- what a search for a pair of the archive may be asked
-  pub query-in : (x y : ℕ) (w : WordValue) → IsPair (a .parties) (pair x y) → Short w → Query (a .parties) x y w
-  query-in x y w h s =
-      record { parties = omega (arith, S .parties, S .limits .parties .1); start = h .first; end = h .second; different = h .different; short = s }
 
   pub longest-in : a .longest ≤ 31
   longest-in = omega (arith, S .longest, S .limits .longest .1)

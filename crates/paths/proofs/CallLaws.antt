@@ -18,11 +18,12 @@ use Rattle.masks.specs.Mask.{testBit, withBit}
 use Rattle.masks.specs.Table.{maskAt}
 use Rattle.masks.proofs.BitLaws.{test-ones, test-with-other}
 use Rattle.masks.proofs.MaskLaws.{zero-bit}
-use Rattle.rebac.specs.Matter.{Matter, Pair, pair}
+use Rattle.rebac.specs.Matter.{Matter, Pair, pair, IsPair}
 use Rattle.rebac.specs.Paths.{Graph, leastPath}
 use Rattle.rebac.specs.Symbols.{alphabet, enlarged, holds}
 use Rattle.rebac.specs.Marked.{onto}
-use Rattle.rebac.proofs.MatterLaws.{graph-equal}
+use Rattle.rebac.proofs.MatterLaws.{graph-equal, next-search-equal}
+use Rattle.rebac.specs.Forms.{searchNext}
 use Rattle.rebac.specs.NextWord.{nextWord}
 use Rattle.rebac.proofs.Reach.{least-is-path}
 use Rattle.rebac.proofs.SearchLaws.{least-size}
@@ -38,22 +39,18 @@ use Rattle.paths.specs.declared.word.Word.{Word}
 use Rattle.paths.specs.declared.search.Found.{Found}
 use Rattle.paths.proofs.SearchLaws.{symbols-length, found-not, found-some}
 use Rattle.paths.specs.Ask.{tableGraph, searchPair, Query}
-use Rattle.paths.specs.Next.{Alphabet}
+use Rattle.paths.specs.Next.{Alphabet, NextAs}
+use Rattle.paths.specs.declared.next.Next.{Next}
 use Rattle.paths.proofs.AskLaws.{search-path, least-fixed, all-fixed}
 
--- a pair that passed
-pub record PairOf (n a b : ℕ) : Type 0 where
-  pub start : a < n
-  pub end : b < n
-  pub different : a ≡ b → ⊥
-
-pub pair-of : (n a b : ℕ) → isPair n a b ≡ true → PairOf n a b
+-- what passes the test of a pair is one
+pub pair-of : (n a b : ℕ) → isPair n a b ≡ true → IsPair n (pair a b)
 unfolding isPair
 pair-of n a b e =
     let r = and-right (ltb a n) (ltb b n && not (eqb a b)) e in
     record {
-      start = ltb-true a n (and-left (ltb a n) _ e);
-      end = ltb-true b n (and-left (ltb b n) _ r);
+      first = ltb-true a n (and-left (ltb a n) _ e);
+      second = ltb-true b n (and-left (ltb b n) _ r);
       different = eqb-false a b (not-true (eqb a b) (and-right (ltb b n) _ r));
     }
 
@@ -227,13 +224,18 @@ unfolding legalWord
 legal-length M w e = leb-true (w .len) (M .longest) (and-left (leb (w .len) (M .longest)) _ e)
 
 -- a pair and a word that passed may be searched for
+-- what a search for a pair of the archive may be asked
+pub query-in : (M : Matter) (s : Archive) → Shows M s → (a b : ℕ) (w : Word) → IsPair (s .parties) (pair a b) → Short w → Query (s .parties) a b w
+query-in M s h a b w p short =
+    record { parties = omega (arith, h .parties, h .limits .parties .1); start = p .first; end = p .second; different = p .different; short = short }
+
 pub query-of : (M : Matter) (s : Archive) → Shows M s → (a b : ℕ) (w : Word) → isPair (M .parties) a b ≡ true → Short w → Query (s .parties) a b w
-query-of M s h a b w e short =
-    let p = pair-of (M .parties) a b e in
-    record {
-      parties = omega (arith, h .parties, h .limits .parties .1);
-      start = omega (arith, h .parties, p .start);
-      end = omega (arith, h .parties, p .end);
-      different = p .different;
-      short = short;
-    }
+query-of M s h a b w e short = query-in M s h a b w (rw (h .parties) (pair-of (M .parties) a b e)) short
+
+-- the searches over an archive give the matter's next word
+pub next-shown : (M : Matter) (a : Archive) → Shows M a → (p : Pair) (w : Word) → Short w → w .len ≤ a .longest → (r : Next) → ((al : List ℕ) → Alphabet al (a .parties) (a .graph) → NextAs (searchNext al (tableGraph (a .parties) (a .graph)) p (a .longest) (symbolsIn w)) r) → NextAs (nextWord M p (symbolsIn w)) r
+next-shown M a S p w s l r f =
+    let z : length (symbolsIn w) ≡ w .len = symbols-length w (omega (arith, s .len, s .full)) in
+    let e = next-search-equal M (tableGraph (a .parties) (a .graph)) (S .parties) (S .graph) p (symbolsIn w) (omega (arith, z, l, S .longest)) in
+    let q = f (alphabet (M .language) (M .labels)) (shown-alphabet M a S) in
+    rw (S .longest, e) at q

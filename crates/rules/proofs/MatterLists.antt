@@ -30,7 +30,7 @@ use Rattle.rules.specs.Reading.{IsList}
 use Rattle.rules.proofs.PlaceLaws.{list-legal-fits}
 use Rattle.rules.specs.Permit.{yesOrNo, permitIn, permitReply}
 use Rattle.rules.proofs.RoundTrip.{decode-encode}
-use Rattle.rules.proofs.PermitLaws.{pair-is}
+use Rattle.paths.proofs.CallLaws.{pair-of}
 
 -- a list that is legal for a matter
 abbrev pub LegalFor : Matter → List (List Word) → Type 0
@@ -81,6 +81,6 @@ permit-of-list f e l h a b p = rw (e, p, decode-encode (matterOf f .labels) (mat
 -- permit on the bytes of the mined list is the permit table
 pub permit-of-mined : (f : List ℕ) → checkOf f ≡ Accepted → capOf (matterOf f .language) ≡ 1 → verdictOf (matterOf f) ≡ convertible → (a b : ℕ) → isPair (matterOf f .parties) a b ≡ true → permitReply f (encodeList (plainList (minedList (matterOf f)))) a b ≡ yesOrNo (permitted (matterOf f) (pair a b))
 permit-of-mined f e cap v a b p =
-    let q = pair-is (matterOf f .parties) a b p in
+    let q = pair-of (matterOf f .parties) a b p in
     permit-of-list f e (plainList (minedList (matterOf f))) (mined-legal (matterOf f) cap (accepted-limits f e .parties .1) v) a b p
     ∙ ap yesOrNo (mined-converts (matterOf f) cap v .exact (pair a b) (pairs-in (matterOf f .parties) a b (q .first) (q .second) (q .different)))

@@ -5,21 +5,17 @@ use mathlib.Core.List.{List}
 use mathlib.Core.Option.{Option, none, some}
 use Prim.Native.Nat.{ℕ, _≤_}
 use native.Mathlib.Omega.{arith}
-use lib.Dec.{eqb, ltb}
-use borrow.Author.Tests.{ltb-true, eqb-false, not-true}
 use Rattle.lists.specs.Lists.{allOf}
-use Rattle.lists.proofs.Cases.{and-left, and-right, both}
+use Rattle.lists.proofs.Cases.{both}
 use Rattle.lists.proofs.ListLaws.{any-same}
-use Rattle.rebac.specs.Matter.{Matter, pair, IsPair}
+use Rattle.rebac.specs.Matter.{Matter, pair}
 use Rattle.rebac.specs.Paths.{Graph, has}
-use Rattle.rebac.specs.Symbols.{enlarged}
 use Rattle.rebac.specs.Existence.{hasAll, permitsPair}
 use Rattle.rebac.specs.Options.{isSome}
-use Rattle.rebac.proofs.MatterLaws.{graph-equal}
 use Rattle.house_file.specs.declared.reply.Refusal.the-variants.{RuleList, PartyPair}
 use Rattle.graph.specs.Archive.{Shows}
 use Rattle.graph.specs.declared.Archive.{Archive}
-use Rattle.paths.specs.Ask.{tableGraph}
+use Rattle.paths.proofs.CallLaws.{shown-graph}
 use Rattle.rules.specs.ListBytes.{decodeList, Bytes}
 use Rattle.rules.specs.Reading.{IsList, SomeList}
 use Rattle.rules.specs.Permit.{yesOrNo, answerBy, permitIn, meetsTerm, meetsList}
@@ -27,13 +23,6 @@ use Rattle.graph.specs.Legal.{isPair}
 use Rattle.rules.specs.declared.call.PermitReply.the-variants.{Refused}
 use Rattle.rules.proofs.RoundTrip.{encode-decode}
 use Rattle.rules.proofs.PlaceLaws.{list-legal-fits}
-
--- what passes the test of a pair is one
-pub pair-is : (n a b : ℕ) → isPair n a b ≡ true → IsPair n (pair a b)
-unfolding isPair
-pair-is n a b e =
-    let k = and-right (ltb a n) _ e in
-    record { first = ltb-true a n (and-left _ _ e); second = ltb-true b n (and-left _ _ k); different = eqb-false a b (not-true (eqb a b) (and-right (ltb b n) _ k)) }
 
 -- bytes that decode are those of a list that fits
 pub list-is : (labels language longest : ℕ) → labels ≤ 8 → longest ≤ 31 → (b : List ℕ) → Bytes b → (l : List (List (List ℕ))) → decodeList labels language longest b ≡ some l → IsList b l
@@ -49,15 +38,26 @@ none-of : {A : Type 0} (o : Option A) → isSome o ≡ false → o ≡ none
 none-of none e = refl
 none-of (some x) e = both {b = true} refl e
 
+-- bytes that passed an archive's check decode to a list, and are that list's
+record Checked (M : Matter) (a : Archive) (list : List ℕ) : Type 0 where
+  listed : List (List (List ℕ))
+  decodes : decodeList (a .labels) (a .language) (a .longest) list ≡ some listed
+  is : IsList list listed
+
+checked : (M : Matter) (a : Archive) → Shows M a → (list : List ℕ) → Bytes list → isSome (decodeList (a .labels) (a .language) (a .longest) list) ≡ true → Checked M a list
+checked M a h list bytes e =
+    let o = some-of (decodeList (a .labels) (a .language) (a .longest) list) e in
+    record { listed = o .0; decodes = o .1; is = list-is (a .labels) (a .language) (a .longest) (omega (arith, h .labels, h .limits .labels .1)) (omega (arith, h .longest, h .limits .longest .1)) list bytes (o .0) (o .1) }
+
+pub checked-list : (M : Matter) (a : Archive) → Shows M a → (list : List ℕ) → Bytes list → isSome (decodeList (a .labels) (a .language) (a .longest) list) ≡ true → SomeList list
+checked-list M a h list bytes e = let k = checked M a h list bytes e in (k .listed, k .is)
+
 module _ (M : Matter) (a : Archive) (h : Shows M a) where
   -- the masks and the matter give the same answers
-  same-graph : tableGraph (a .parties) (a .graph) ≡ enlarged M
-  same-graph = graph-equal (tableGraph (a .parties) (a .graph)) (enlarged M) (h .parties) (h .graph)
-
   pub same-answer : (first second : ℕ) (l : List (List (List ℕ))) → meetsList (a .parties) (a .graph) first second l ≡ permitsPair M l (pair first second)
   unfolding meetsList meetsTerm permitsPair hasAll
   same-answer first second l =
-      any-same (meetsTerm (a .parties) (a .graph) first second) (hasAll M (pair first second)) l (λ t m. ap (λ (g : Graph ℕ). allOf (has g (pair first second)) t) same-graph)
+      any-same (meetsTerm (a .parties) (a .graph) first second) (hasAll M (pair first second)) l (λ t m. ap (λ (g : Graph ℕ). allOf (has g (pair first second)) t) (shown-graph M a h))
 
   module _ (list : List ℕ) (first second : ℕ) where
     pub no-pair : isPair (a .parties) first second ≡ false → permitIn M list first second ≡ Refused PartyPair
@@ -73,19 +73,7 @@ module _ (M : Matter) (a : Archive) (h : Shows M a) where
       no-list e = in-pair ∙ rw (none-of (decodeList (a .labels) (a .language) (a .longest) list) e)
 
       module _ (bytes : Bytes list) (e : isSome (decodeList (a .labels) (a .language) (a .longest) list) ≡ true) where
-        pub the-list : SomeList list
-        the-list =
-            let o = some-of (decodeList (a .labels) (a .language) (a .longest) list) e in
-            (o .0, list-is (a .labels) (a .language) (a .longest) (omega (arith, h .labels, h .limits .labels .1)) (omega (arith, h .longest, h .limits .longest .1)) list bytes (o .0) (o .1))
-
         pub the-answer : (r : Bool) → ((l : List (List (List ℕ))) → IsList list l → r ≡ meetsList (a .parties) (a .graph) first second l) → permitIn M list first second ≡ yesOrNo r
         the-answer r k =
-            let o = some-of (decodeList (a .labels) (a .language) (a .longest) list) e in
-            let i = list-is (a .labels) (a .language) (a .longest) (omega (arith, h .labels, h .limits .labels .1)) (omega (arith, h .longest, h .limits .longest .1)) list bytes (o .0) (o .1) in
-            in-pair ∙ rw (o .1) (ap yesOrNo (sym (k (o .0) i ∙ same-answer first second (o .0))))
-
--- bytes that passed an archive's check are those of a list
-pub checked-list : (M : Matter) (a : Archive) → Shows M a → (list : List ℕ) → Bytes list → isSome (decodeList (a .labels) (a .language) (a .longest) list) ≡ true → SomeList list
-checked-list M a h list bytes e =
-    let o = some-of (decodeList (a .labels) (a .language) (a .longest) list) e in
-    (o .0, list-is (a .labels) (a .language) (a .longest) (omega (arith, h .labels, h .limits .labels .1)) (omega (arith, h .longest, h .limits .longest .1)) list bytes (o .0) (o .1))
+            let o = checked M a h list bytes e in
+            in-pair ∙ rw (o .decodes) (ap yesOrNo (sym (k (o .listed) (o .is) ∙ same-answer first second (o .listed))))

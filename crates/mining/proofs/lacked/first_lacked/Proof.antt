@@ -8,7 +8,8 @@ use Rattle.rebac.specs.NextWord.{nextWord}
 use Rattle.graph.specs.Archive.{Shows}
 use Rattle.paths.specs.Word.{symbolsIn, Short}
 use Rattle.paths.specs.Next.{NextAs}
-use Rattle.mining.proofs.LackedLaws.{Passed, leftIn, next-shown, in-hand, passed-start, passed-end, passed-here, passed-again, left-falls, query-in, longest-in, in-hand-short}
+use Rattle.paths.proofs.CallLaws.{query-in, next-shown}
+use Rattle.mining.proofs.LackedLaws.{Passed, leftIn, in-hand, passed-start, passed-end, passed-here, passed-again, left-falls, longest-in, in-hand-short}
 use Rattle.mining.proofs.lacked.first_lacked.Statement.{statement}
 use Rattle.mining.proofs.lacked.first_lacked.Tie as tie
 

@@ -14,16 +14,12 @@ use Rattle.paths.specs.Word.{symbolsIn, Short}
 use Rattle.paths.specs.Calls.{Answer, writes, replyOf, outputOf, found, legalWord}
 use Rattle.paths.specs.declared.word.Word.{Word}
 use lib.Seq.{length-take-le}
-use Rattle.rebac.specs.Symbols.{alphabet}
 use Rattle.rebac.specs.NextWord.{nextWord}
-use Rattle.rebac.specs.Forms.{searchNext}
-use Rattle.rebac.proofs.MatterLaws.{next-search-equal}
-use Rattle.paths.specs.Ask.{tableGraph}
 use Rattle.paths.specs.Next.{NextAs}
 use Rattle.paths.specs.declared.call.Reply.the-variants.{Wrote}
 use Rattle.paths.proofs.SearchLaws.{symbols-length}
 use Rattle.paths.proofs.NextLaws.{next-not, next-some}
-use Rattle.paths.proofs.CallLaws.{query-of, pair-of, PairOf, shown-pair, shown-legal, shown-alphabet, legal-short, legal-length, next-pair, next-word-bad, next-short, next-answer, copied}
+use Rattle.paths.proofs.CallLaws.{query-of, next-shown, shown-pair, shown-legal, legal-short, legal-length, next-pair, next-word-bad, next-short, next-answer, copied}
 use borrow.Author.Needs.{needs}
 use Rattle.paths.proofs.call.next_in.Statement.{statement}
 use Rattle.paths.proofs.call.next_in.Tie as tie
@@ -46,11 +42,7 @@ searched : (c : tie.After-next-word) (M : Matter) → Shows M (c .before .before
 searched c M S =
     let a = c .before .before .before .before .before .before .before .before .args in
     let w = short (c .before .before .before) in
-    let z : length (symbolsIn (a .w)) ≡ a .w .len = symbols-length (a .w) (omega (arith, w .len, w .full)) in
-    let l = legal-length M (a .w) (legal (c .before .before .before) M S) in
-    let e = next-search-equal M (tableGraph (a .a .parties) (a .a .graph)) (S .parties) (S .graph) (pair (a .first) (a .second)) (symbolsIn (a .w)) (omega (arith, z, l)) in
-    let q = c .next-word .ensures .1 (alphabet (M .language) (M .labels)) (shown-alphabet M (a .a) S) in
-    rw (S .longest, e) at q
+    next-shown M (a .a) S (pair (a .first) (a .second)) (a .w) w (omega (arith, legal-length M (a .w) (legal (c .before .before .before) M S), S .longest)) (c .next-word .result) (c .next-word .ensures .1)
 
 -- the word's symbols as bytes
 full : (c : tie.After-next-word) → length (symbolsIn (c .next-word .result .word)) ≡ c .next-word .result .word .len

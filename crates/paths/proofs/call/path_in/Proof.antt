@@ -15,7 +15,7 @@ use Rattle.paths.specs.Calls.{Answer, writes, replyOf, outputOf, found, 
 use Rattle.paths.specs.declared.word.Word.{Word}
 use Rattle.paths.specs.declared.call.Reply.the-variants.{Wrote}
 use lib.Count.{ones}
-use Rattle.paths.proofs.CallLaws.{query-of, pair-of, PairOf, shown-pair, shown-legal, legal-short, path-pair, path-word, path-empty, path-short, path-answer, PathFound, path-found, path-not, copied}
+use Rattle.paths.proofs.CallLaws.{query-of, pair-of, shown-pair, shown-legal, legal-short, path-pair, path-word, path-empty, path-short, path-answer, PathFound, path-found, path-not, copied}
 use lib.ListN.{length-set}
 use lib.Seq.{length-take-le}
 use borrow.Author.Needs.{needs}
@@ -93,7 +93,7 @@ cast-parties : tie.Need-cast-parties
 cast-parties c =
     let x = c .before .before .before .before .before .before .before .before .before .before .before in
     let p = pair-of (x .pre .0 .parties) _ _ (pair-ok (c .before .before .before .before .before .before .before .before) (x .pre .0) (x .pre .1)) in
-    omega (arith, p .start, x .pre .1 .limits .parties .1)
+    omega (arith, p .first, x .pre .1 .limits .parties .1)
 
 array-write-parties : tie.Need-array-write-parties
 array-write-parties c = search needs

@@ -6,7 +6,8 @@ use native.Mathlib.Omega.{arith}
 use borrow.Author.Tests.{not-true, not-false}
 use Rattle.rules.specs.Permit.{yesOrNo}
 use Rattle.graph.specs.Legal.{isPair}
-use Rattle.rules.proofs.PermitLaws.{pair-is, no-pair, no-list, the-list, the-answer}
+use Rattle.rules.proofs.PermitLaws.{no-pair, no-list, checked-list, the-answer}
+use Rattle.paths.proofs.CallLaws.{pair-of}
 use borrow.Author.Needs.{needs}
 use Rattle.rules.proofs.call.permit_in.Statement.{statement}
 use Rattle.rules.proofs.call.permit_in.Tie as tie
@@ -34,7 +35,7 @@ returns-2 c = λ M h. sym (no-list M _ h _ _ _ (paired (c .before .before)) (sym
 meets-list-requires : tie.Need-meets-list-requires
 meets-list-requires c κs =
     let w = c .before .before .before .before .before .before .pre in
-    (omega (arith, w .1 .parties, w .1 .limits .parties .1), (pair-is _ _ _ (paired (c .before .before .before)), the-list (w .0) _ (w .1) _ _ _ (paired (c .before .before .before)) (bytes (c .before .before .before .before .before)) (sym (c .before .before .check-list .ensures) ∙ not-false _ (c .before .if2 .left))))
+    (omega (arith, w .1 .parties, w .1 .limits .parties .1), (pair-of _ _ _ (paired (c .before .before .before)), checked-list (w .0) _ (w .1) _ (bytes (c .before .before .before .before .before)) (sym (c .before .before .check-list .ensures) ∙ not-false _ (c .before .if2 .left))))
 
 returns-3 : tie.Need-returns-3
 returns-3 c =
