@@ -12,7 +12,7 @@ use borrow.Author.Tests.{lt-ltb, le-leb, leb-true, leb-false}
 use Rattle.lists.specs.Lists.{anyOf, filterBy, firstBy, flatMap, upFrom, range}
 use Rattle.lists.specs.Order.{Ascending, Distinct, headOf, sumOf}
 use Rattle.lists.proofs.Cases.{by-test, by-found, by-mem, clash, both}
-use Rattle.lists.proofs.ListLaws.{filter-out, up-out, find-none, find-none-of, find-some, find-in}
+use Rattle.lists.proofs.ListLaws.{filter-out, map-out, up-out, find-none, find-none-of, find-some, find-in}
 
 -- k where the test passes, else 0
 abbrev pub onlyIf : Bool → ℕ → ℕ
@@ -40,6 +40,18 @@ module _ {A : Type 0} where
       by-test (p x)
       (λ q. rw (q, filterBy) (λ y n. h .0 y (filter-out p l n .0), ascending-filter R p l (h .1)))
       (λ q. rw (q, filterBy) (ascending-filter R p l (h .1)))
+
+  -- two lists in order with the same members are the same
+  pub ascending-equal : (R : A → A → Bool) → ((x y : A) → R x y ≡ true → R y x ≡ true → ⊥) → (l m : List A) → Ascending R l → Ascending R m → ((x : A) → List·Memᴰ x l → List·Memᴰ x m) → ((x : A) → List·Memᴰ x m → List·Memᴰ x l) → l ≡ m
+  ascending-equal R i [] [] sl sm f g = refl
+  ascending-equal R i [] (y ∷ m) sl sm f g = absurd (List·Memᴰ·not-nil (g y (List·Memᴰ·head refl)))
+  ascending-equal R i (x ∷ l) [] sl sm f g = absurd (List·Memᴰ·not-nil (f x (List·Memᴰ·head refl)))
+  ascending-equal R i (x ∷ l) (y ∷ m) sl sm f g =
+      let e : x ≡ y = by-mem (f x (List·Memᴰ·head refl)) (λ q. q) (λ n. by-mem (g y (List·Memᴰ·head refl)) (λ q. sym q) (λ k. absurd (i x y (sl .0 y k) (sm .0 x n)))) in
+      let t : l ≡ m = ascending-equal R i l m (sl .1) (sm .1)
+      (λ z n. by-mem (f z (List·Memᴰ·tail n)) (λ q. let b : z ≡ x = q ∙ sym e in let c : R x x ≡ true = ap (R x) (sym b) ∙ sl .0 z n in absurd (i x x c c)) (λ k. k))
+      (λ z n. by-mem (g z (List·Memᴰ·tail n)) (λ q. let b : z ≡ y = q ∙ e in let c : R y y ≡ true = ap (R y) (sym b) ∙ sm .0 z n in absurd (i y y c c)) (λ k. k)) in
+      cc
 
   -- in an order with no element before itself, a list in order has no repetition
   pub ascending-distinct : (R : A → A → Bool) → ((x : A) → R x x ≡ false) → (l : List A) → Ascending R l → Distinct l
@@ -102,6 +114,10 @@ module _ {A : Type 0} where
   unfolding sumOf filterBy
   sum-filter f p [] = refl
   sum-filter f p (x ∷ l) = by-test (p x) (λ q. rw (q, filterBy, sum-filter f p l)) (λ q. rw (q, filterBy) (omega (arith, sum-filter f p l)))
+
+pub ascending-map : {A B : Type 0} (R : A → A → Bool) (Q : B → B → Bool) (f : A → B) → ((x y : A) → R x y ≡ true → Q (f x) (f y) ≡ true) → (l : List A) → Ascending R l → Ascending Q (map f l)
+ascending-map R Q f h [] s = tt
+ascending-map R Q f h (x ∷ l) s = (λ y n. let r = map-out f l n in rw (r .2) (h x (r .0) (s .0 (r .0) (r .1))), ascending-map R Q f h l (s .1))
 
 pub length-map : {A B : Type 0} (f : A → B) (l : List A) → length (map f l) ≡ length l
 length-map f [] = refl

@@ -1,2 +1,8 @@
 pub mod LackedLaws
 pub mod TermLaws
+pub mod GridLaws
+pub mod ArchiveLaws
+pub mod BuildLaws
+pub mod FirstLaws
+pub mod MarkLaws
+pub mod TakeLaws

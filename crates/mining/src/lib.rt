@@ -1,6 +1,14 @@
-// Verdict and mining: the words that tell one pair from another, and a term as it grows.
+// The terms of mining: the words that tell one pair from another, a term as it grows, and the pairs taken in turn.
+mod build;
 mod lacked;
+mod take;
 mod term;
 
+pub use build::Built;
+pub use build::Pair;
+pub use build::build_term;
 pub use lacked::first_lacked;
+pub use take::Judgment;
+pub use take::Taken;
+pub use take::take_pair;
 pub use term::add_word;

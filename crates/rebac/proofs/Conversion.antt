@@ -134,7 +134,8 @@ plain-ones [] = refl
 plain-ones (t ∷ r) = rw (term-ones t, plain-ones r)
 
 module _ (M : Matter) where
-  meets-one : (p : Pair) (t : Term Word) → ((i : Item Word) → List·Memᴰ i t → i .count ≡ 1) → meets (problemOf M) p t ≡ hasAll M p (plainTerm t)
+  -- a term in which every m is 1 is met where the pair has its words
+  pub meets-one : (p : Pair) (t : Term Word) → ((i : Item Word) → List·Memᴰ i t → i .count ≡ 1) → meets (problemOf M) p t ≡ hasAll M p (plainTerm t)
   unfolding meets meetsItem hasAll problemOf problemOver allOf
   meets-one p [] f = refl
   meets-one p (i ∷ t) f = rw (f i (List·Memᴰ·head refl), score-has M p (i .word), meets-one p t (λ j m. f j (List·Memᴰ·tail m)))

@@ -1,6 +1,7 @@
 -- The pairs of n parties: each once, in pair order, n (n - 1) of them; by induction on the range.
 use mathlib.Core.Path.{_≡_, refl, ap, _∙_}
-use mathlib.Core.Bool.{not}
+use mathlib.Core.Logic.{⊎-elim}
+use mathlib.Core.Bool.{true, not}
 use mathlib.Core.List.{List, [], _∷_, map, List·Memᴰ, List·Memᴰ·head, List·Memᴰ·tail}
 use Prim.Native.Nat.{ℕ, zero, suc, _+_, _*_, _-_, _≤_, _<_}
 use native.Mathlib.Omega.{arith}
@@ -14,7 +15,7 @@ use Rattle.lists.proofs.Cases.{by-test}
 use Rattle.lists.proofs.ListLaws.{filter-in, filter-out, flat-in, flat-out, map-in, map-out, range-in, range-out}
 use Rattle.lists.proofs.OrderLaws.{ascending-append, ascending-filter, range-ascending, length-map, length-flat}
 use Rattle.rebac.specs.Matter.{Pair, pair, IsPair, pairBefore, pairsOf}
-use Rattle.rebac.proofs.LexOrder.{first-lower, first-same}
+use Rattle.rebac.proofs.LexOrder.{by-first, first-lower, first-same}
 
 pub pairs-in : (n a b : ℕ) → a < n → b < n → (a ≡ b → ⊥) → List·Memᴰ (pair a b) (pairsOf n)
 unfolding pairsOf
@@ -48,6 +49,17 @@ rows-ascending f h (a ∷ l) al =
 pub pairs-ascending : (n : ℕ) → Ascending pairBefore (pairsOf n)
 unfolding pairsOf
 pairs-ascending n = rows-ascending (λ a. filterBy (λ b. not (eqb a b)) (range n)) (λ a. ascending-filter ltb (λ b. not (eqb a b)) (range n) (range-ascending n)) (range n) (range-ascending n)
+
+-- of two pairs at most one is before the other
+pub pair-one-way : (p q : Pair) → pairBefore p q ≡ true → pairBefore q p ≡ true → ⊥
+pair-one-way p q h k =
+    ⊎-elim
+    (λ (a : p .first < q .first). ⊎-elim (λ (b : q .first < p .first). omega (arith, a, b)) (λ (b : (q .first ≡ p .first) × (ltb (q .second) (p .second) ≡ true)). omega (arith, a, b .0)) (by-first (q .first) (p .first) (ltb (q .second) (p .second)) k))
+    (λ (a : (p .first ≡ q .first) × (ltb (p .second) (q .second) ≡ true)). ⊎-elim
+    (λ (b : q .first < p .first). omega (arith, a .0, b))
+    (λ (b : (q .first ≡ p .first) × (ltb (q .second) (p .second) ≡ true)). omega (arith, ltb-true (p .second) (q .second) (a .1), ltb-true (q .second) (p .second) (b .1)))
+    (by-first (q .first) (p .first) (ltb (q .second) (p .second)) k))
+    (by-first (p .first) (q .first) (ltb (p .second) (q .second)) h)
 
 -- a row leaves out one party of the range
 above : (a s k : ℕ) → a < s → length (filterBy (λ b. not (eqb a b)) (upFrom s k)) ≡ k

@@ -150,7 +150,7 @@ module _ (labels language longest : ℕ) (few : labels ≤ 8) (short : longest �
   symbols-small (x ∷ w) h zero = let k : x / 4 < labels = ltb-true _ _ (and-left (ltb (x / 4) labels) _ (and-left (legalSymbol labels language x) _ h)) in omega arith
   symbols-small (x ∷ w) h (suc i) = symbols-small w (and-right (legalSymbol labels language x) _ h) i
 
-  word-legal-fits : (w : List ℕ) → legalWord labels language longest w ≡ true → FitWord w
+  pub word-legal-fits : (w : List ℕ) → legalWord labels language longest w ≡ true → FitWord w
   unfolding legalWord
   word-legal-fits w h =
       let k = and-right (leb 1 (length w)) _ h in

@@ -1,0 +1,86 @@
+// Mining: the list into the lent output, the pairs that it permits into scratch.
+ghost use mathlib.Core.Path.{_≡_};
+ghost use mathlib.Core.List.{_++_};
+ghost use Prim.Native.Nat.{ℕ, _≤_};
+ghost use lib.ListN.{length, drop};
+ghost use Rattle.rebac.specs.Matter.{Matter};
+ghost use Rattle.rebac.specs.Verdict.{verdict, convertible};
+ghost use Rattle.rebac.specs.Mining.{mine as minedTerms};
+ghost use Rattle.graph.specs.Archive.{Shows};
+ghost use Rattle.mining.specs.Building.{problemIn};
+ghost use Rattle.mining.specs.Taking.{Marks};
+ghost use Rattle.conversion.specs.Calls.{miningIn, miningCall, minedReply, scratchOf, outputOf};
+ghost use Rattle.conversion.specs.Passes.{archiveBytes};
+use crate::table::put_table;
+use crate::verdict::VerdictReply;
+use crate::verdict::judge;
+use graph::Archive;
+use house_file::Check;
+use house_file::Refusal;
+use masks::Row;
+
+// Refused, or the length of the list written.
+pub enum MiningReply {
+    Refused(Refusal),
+    Wrote(usize),
+}
+
+// The list of a convertible archive, its terms one after another, and then their number; the pairs that it permits.
+fn write_list(a: Archive, out: &mut [u8]) -> Row
+    requires { ⌜ ((M : Matter) × Shows M a) × ((verdict (problemIn a) ≡ convertible) × (length (archiveBytes a) ≤ length (now out))) ⌝ }
+    ensures { λ r. ⌜ (now (out .exit) ≡ archiveBytes a ++ drop (length (archiveBytes a)) (now (out .entry))) × Marks a (minedTerms (problemIn a)) r ⌝ }
+{
+    let mut marks = masks::empty_row();
+    let mut number: usize = 0;
+    let mut end: usize = 2;
+    for k in 0..1024 {
+        let t = mining::take_pair(a, marks, k, out, end);
+        if end < t.end {
+            number += 1;
+        }
+        end = t.end;
+        marks = t.marks;
+    }
+    rules::put_u16(out, 0, number);
+    marks
+}
+
+// The answer for an accepted file: the verdict first, since a refusal leaves the output as it was.
+fn mine_in(a: Archive, scratch: &mut [u8], out: &mut [u8]) -> MiningReply
+    requires { ⌜ ((M : Matter) × Shows M a) ⌝ }
+    ensures { λ r. ⌜ ((M : Matter) → Shows M a → (r ≡ minedReply (miningIn M (length (now (scratch .entry))) (length (now (out .entry))))) × ((now (scratch .exit) ≡ scratchOf (miningIn M (length (now (scratch .entry))) (length (now (out .entry)))) (now (scratch .entry))) × (now (out .exit) ≡ outputOf (miningIn M (length (now (scratch .entry))) (length (now (out .entry)))) (now (out .entry))))) ⌝ }
+{
+    if scratch.len() < 1024 {
+        return MiningReply::Refused(Refusal::Scratch);
+    }
+    let v = judge(a);
+    match v {
+        VerdictReply::Convertible(size) => {
+            if out.len() < size {
+                put_table(scratch, masks::empty_row());
+                return MiningReply::Refused(Refusal::Output);
+            }
+            let marks = write_list(a, out);
+            put_table(scratch, marks);
+            MiningReply::Wrote(size)
+        }
+        VerdictReply::Refused(e) => MiningReply::Refused(e),
+        VerdictReply::NoWord(p) => MiningReply::Refused(Refusal::Inconvertible),
+        VerdictReply::Rival(p, q) => MiningReply::Refused(Refusal::Inconvertible),
+    }
+}
+
+// 01's mining, for any bytes, scratch and output.
+pub fn mine(file: &[u8], scratch: &mut [u8], out: &mut [u8]) -> MiningReply
+    ensures { λ r. ⌜ (r ≡ minedReply (miningCall (now (file .entry)) (length (now (scratch .entry))) (length (now (out .entry))))) × ((now (scratch .exit) ≡ scratchOf (miningCall (now (file .entry)) (length (now (scratch .entry))) (length (now (out .entry)))) (now (scratch .entry))) × (now (out .exit) ≡ outputOf (miningCall (now (file .entry)) (length (now (scratch .entry))) (length (now (out .entry)))) (now (out .entry)))) ⌝ }
+{
+    let r = graph::load(file);
+    let reply = r.reply;
+    match reply {
+        Check::Refused(e) => MiningReply::Refused(e),
+        Check::Accepted => {
+            let a = r.archive;
+            mine_in(a, scratch, out)
+        }
+    }
+}

@@ -1,0 +1,45 @@
+-- One pair taken in turn: judged and given its term, or passed over. What the verdict and mining do with each pair.
+use Prim.Native.Nat.{ℕ, _+_, _≤_, _/_, _%_}
+use mathlib.Core.Path.{_≡_}
+use mathlib.Core.Bool.{Bool, true, false, not, _&&_}
+use mathlib.Core.List.{List, [], _∷_, _++_}
+use lib.ListN.{length}
+use Rattle.masks.specs.Mask.{testBit}
+use Rattle.masks.specs.Table.{maskIn}
+use Rattle.masks.specs.declared.Row.{Row}
+use Rattle.rebac.specs.Matter.{Pair, pair}
+use Rattle.rebac.specs.Words.{Word}
+use Rattle.rebac.specs.Rules.{RuleList, permits}
+use Rattle.rebac.specs.Verdict.{Verdict, convertible, noWord, rivalled, judge}
+use Rattle.rebac.specs.Mining.{termOf}
+use Rattle.graph.specs.declared.Archive.{Archive}
+use Rattle.graph.specs.Legal.{isPair}
+use Rattle.rules.specs.Writing.{put}
+use Rattle.mining.specs.Pairs.{pairAt, isPairAt}
+use Rattle.mining.specs.Building.{problemIn, named, termBytes}
+use Rattle.mining.specs.declared.take.Taken.{Taken}
+use Rattle.mining.specs.declared.take.Judgment.the-variants.{Fit, Wordless, Rivalled}
+
+-- the row's bit (u, v) tells whether the list permits the pair; bits of no pair are clear
+abbrev pub Marks : Archive → RuleList Word → Row → Type 0
+Marks a r row = (u v : ℕ) → testBit (maskIn row u) v ≡ (isPair (a .parties) u v && permits (problemIn a) r (pair u v))
+
+-- the pair of this number is permitted, and no term so far permits it
+unfoldable pub due : Archive → RuleList Word → ℕ → Bool
+due a r k = isPairAt (a .parties) k && (problemIn a .permitted (pairAt k) && not (permits (problemIn a) r (pairAt k)))
+
+-- there is room for the term, where one is due
+pub record Ready (a : Archive) (row : Row) (k at size : ℕ) : Type 0 where
+  pub list : RuleList Word
+  pub marks : Marks a list row
+  pub room : due a list k ≡ true → at + length (termBytes a (pairAt k)) ≤ size
+
+abbrev pub JudgedAs : Archive → RuleList Word → ℕ → ℕ → List ℕ → List ℕ → Verdict Pair → Taken → Type 0
+JudgedAs a r k at old new convertible t =
+    (t .judgment ≡ Fit) × ((t .end ≡ at + length (termBytes a (pairAt k))) × ((new ≡ put old at (termBytes a (pairAt k))) × Marks a (r ++ (termOf (problemIn a) (pairAt k) ∷ [])) (t .marks)))
+JudgedAs a r k at old new (noWord x) t = t .judgment ≡ Wordless
+JudgedAs a r k at old new (rivalled x q) t = t .judgment ≡ Rivalled (named q)
+
+pub record TakenAs (a : Archive) (r : RuleList Word) (k at : ℕ) (old new : List ℕ) (t : Taken) : Type 0 where
+  pub passed : due a r k ≡ false → (t .judgment ≡ Fit) × ((t .end ≡ at) × ((new ≡ old) × Marks a r (t .marks)))
+  pub judged : due a r k ≡ true → JudgedAs a r k at old new (judge (problemIn a) (pairAt k)) t
