@@ -54,6 +54,10 @@ oneIf false = 0
 unfoldable pub tableOf : Matter → List ℕ
 tableOf M = map (λ k. oneIf (isPair (M .parties) (k / 32) (k % 32) && permitsPair M (listOf M) (pair (k / 32) (k % 32)))) (range 1024)
 
+-- 1,024 bytes 0
+unfoldable pub clearTable : List ℕ
+clearTable = replicate 1024 0
+
 abbrev pub enough : Bool → Answer → Answer
 enough true k = k
 enough false k = tooShort
@@ -78,7 +82,7 @@ minedReply (writes t l) = Wrote (length l)
 -- "Scratch keeps all bytes too, except at 14 in mining, where its first 1,024 become 0."
 abbrev pub scratchOf : Answer → List ℕ → List ℕ
 scratchOf (refuses x) old = old
-scratchOf tooShort old = replicate 1024 0 ++ drop 1024 old
+scratchOf tooShort old = clearTable ++ drop 1024 old
 scratchOf (writes t l) old = t ++ drop 1024 old
 
 abbrev pub outputOf : Answer → List ℕ → List ℕ

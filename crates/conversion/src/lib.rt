@@ -4,6 +4,6 @@ mod table;
 mod verdict;
 
 pub use mine::MiningReply;
-pub use mine::mine;
+pub use mine::mining_call;
 pub use verdict::VerdictReply;
-pub use verdict::verdict;
+pub use verdict::verdict_call;

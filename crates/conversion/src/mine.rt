@@ -71,7 +71,7 @@ fn mine_in(a: Archive, scratch: &mut [u8], out: &mut [u8]) -> MiningReply
 }
 
 // 01's mining, for any bytes, scratch and output.
-pub fn mine(file: &[u8], scratch: &mut [u8], out: &mut [u8]) -> MiningReply
+pub fn mining_call(file: &[u8], scratch: &mut [u8], out: &mut [u8]) -> MiningReply
     ensures { λ r. ⌜ (r ≡ minedReply (miningCall (now (file .entry)) (length (now (scratch .entry))) (length (now (out .entry))))) × ((now (scratch .exit) ≡ scratchOf (miningCall (now (file .entry)) (length (now (scratch .entry))) (length (now (out .entry)))) (now (scratch .entry))) × (now (out .exit) ≡ outputOf (miningCall (now (file .entry)) (length (now (scratch .entry))) (length (now (out .entry)))) (now (out .entry)))) ⌝ }
 {
     let r = graph::load(file);

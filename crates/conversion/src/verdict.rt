@@ -55,7 +55,7 @@ pub fn judge(a: Archive) -> VerdictReply
 }
 
 // 01's verdict, for any bytes.
-pub fn verdict(file: &[u8]) -> VerdictReply
+pub fn verdict_call(file: &[u8]) -> VerdictReply
     ensures { λ r. ⌜ r ≡ verdictCall (now (file .entry)) ⌝ }
 {
     let r = graph::load(file);

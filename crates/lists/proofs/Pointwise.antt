@@ -1,7 +1,7 @@
 -- List functions whose tests or values agree on the members agree; ranges and filters of a longer range. By induction on the list.
 use mathlib.Core.Path.{_≡_, refl, sym, ap, _∙_}
 use mathlib.Core.Bool.{Bool, true, false, not, _&&_}
-use mathlib.Core.List.{List, [], _∷_, _++_, append-nil, List·Memᴰ, List·Memᴰ·head, List·Memᴰ·tail, List·Memᴰ·not-nil}
+use mathlib.Core.List.{List, [], _∷_, _++_, map, append-nil, List·Memᴰ, List·Memᴰ·head, List·Memᴰ·tail, List·Memᴰ·not-nil}
 use mathlib.Core.Option.{some}
 use Prim.Native.Nat.{ℕ, zero, suc, _+_, _-_, _≤_, _<_}
 use native.Mathlib.Omega.{arith}
@@ -90,7 +90,7 @@ flat-same f g [] h = refl
 flat-same f g (x ∷ l) h = rw (h x (List·Memᴰ·head refl), flat-same f g l (λ y m. h y (List·Memᴰ·tail m)))
 
 -- a range is the shorter range and what comes after it
-up-append : (a k j : ℕ) → upFrom a (k + j) ≡ upFrom a k ++ upFrom (a + k) j
+pub up-append : (a k j : ℕ) → upFrom a (k + j) ≡ upFrom a k ++ upFrom (a + k) j
 unfolding upFrom
 up-append a zero j = let e : 0 + j ≡ j = omega arith in let z : a + 0 ≡ a = omega arith in rw (e, z)
 up-append a (suc k) j = let e : suc k + j ≡ suc (k + j) = omega arith in let z : a + suc k ≡ suc a + k = omega arith in rw (e, z, up-append (suc a) k j)
@@ -121,3 +121,11 @@ distinct-short (suc n) l d f =
     let r : length (filterBy (λ x. not (eqb n x)) l) ≤ n = distinct-short n (filterBy (λ x. not (eqb n x)) l) (distinct-filter (λ x. not (eqb n x)) l d)
     (λ x m. let k = filter-out (λ x. not (eqb n x)) l m in let q : n ≡ x → ⊥ = eqb-false n x (not-true (eqb n x) (k .1)) in omega (arith, q, f x (k .0))) in
     omega (arith, remove-length n l d)
+
+pub map-same : {A B : Type 0} (f g : A → B) (l : List A) → ((x : A) → List·Memᴰ x l → f x ≡ g x) → map f l ≡ map g l
+map-same f g [] h = refl
+map-same f g (x ∷ l) h = rw (h x (List·Memᴰ·head refl), map-same f g l (λ y m. h y (List·Memᴰ·tail m))) refl
+
+pub map-append : {A B : Type 0} (f : A → B) (l m : List A) → map f (l ++ m) ≡ map f l ++ map f m
+map-append f [] m = refl
+map-append f (x ∷ l) m = rw (map-append f l m) refl
