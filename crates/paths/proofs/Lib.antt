@@ -1,4 +1,5 @@
 pub mod SearchLaws
+pub mod WalkLaws
 pub mod AskLaws
 pub mod NextLaws
 pub mod CallLaws

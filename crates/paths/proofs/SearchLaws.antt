@@ -63,7 +63,7 @@ module _ (n : ℕ) (t : Table) (visited u target : ℕ) where
       ∙ ap (λ (b : Bool). given (not b && placeOn x (maskAt t u target)) (some (target ∷ []))) (sym (marks-list n visited target h))
 
   -- the target was passed already
-  search-passed : target < n → testBit visited target ≡ true → (x : Place) (xs : List Place) → searchFrom n t visited u target (x ∷ xs) ≡ none
+  pub search-passed : target < n → testBit visited target ≡ true → (x : Place) (xs : List Place) → searchFrom n t visited u target (x ∷ xs) ≡ none
   search-passed h e x xs =
       is-routes (x ∷ xs) ∙ least-seen (maskGraph n t) (visitedList n visited) u target x xs (member-out target _ (sym (marks-list n visited target h) ∙ e))
 
@@ -102,6 +102,10 @@ module _ (n : ℕ) (t : Table) (visited u target : ℕ) (x : Place) (xs : List P
   pub through-not : (c : ℕ) → placeOn x (maskAt t u c) ≡ false → through n t visited u target x xs c ≡ none
   unfolding through
   through-not c e = by-test (testBit visited c) (λ q. rw q) (λ q. rw (q, e))
+
+  pub through-lost : (c : ℕ) → searchFrom n t (withBit visited c) c target xs ≡ none → through n t visited u target x xs c ≡ none
+  unfolding through
+  through-lost c e = rw e (by-test (not (testBit visited c) && placeOn x (maskAt t u c)) (λ q. rw q) (λ q. rw q))
 
   pub through-on : (c : ℕ) → testBit visited c ≡ false → placeOn x (maskAt t u c) ≡ true → through n t visited u target x xs c ≡ onto c (searchFrom n t (withBit visited c) c target xs)
   unfolding through

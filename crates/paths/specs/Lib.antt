@@ -1,5 +1,6 @@
 pub mod Word
 pub mod Search
+pub mod Walk
 pub mod Ask
 pub mod Next
 pub mod Calls

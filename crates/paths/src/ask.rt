@@ -20,10 +20,10 @@ pub fn search_pair(g: Table, n: usize, first: usize, second: usize, w: Word, fix
 {
     let len = w.len;
     if len == 0 {
-        return none();
+        return none(0);
     }
     if n <= len {
-        return none();
+        return none(0);
     }
     party_search(
         g,

@@ -3,6 +3,7 @@ mod ask;
 mod call;
 mod next;
 mod search;
+mod walk;
 mod word;
 
 pub use ask::has_word;

@@ -10,28 +10,32 @@ ghost use Rattle.masks.specs.Mask.{testBit, withBit};
 ghost use Rattle.rebac.specs.Options.{given};
 ghost use Rattle.paths.specs.Word.{Short};
 ghost use Rattle.paths.specs.Search.{placeAt, placeOn, placesFrom, searchFrom, FoundAs, Asked};
+use crate::walk::walkable;
 use crate::word::Word;
 use masks::Table;
 
 // What a search found: whether there is a path, its parties as a mask, and its parties in order from place 0.
+// Where there is none, `tried` says how many parties the search entered, short of the last two places.
 pub struct Found {
     pub found: bool,
     pub visited: u32,
     pub parties: [u8; 32],
+    pub tried: u32,
 }
 
-pub fn none() -> Found
+pub fn none(tried: u32) -> Found
     ensures { λ r. ⌜ r .found ≡ false ⌝ }
 {
     Found {
         found: false,
         visited: 0,
         parties: [0u8; 32],
+        tried,
     }
 }
 
 // Whether some symbol of the mask may stand at place `at`.
-fn allows(w: Word, fixed: usize, at: usize, mask: u32) -> bool
+pub fn allows(w: Word, fixed: usize, at: usize, mask: u32) -> bool
     requires { ⌜ Short w × (at < w .len) ⌝ }
     ensures { λ r. ⌜ r ≡ placeOn (placeAt w fixed at) mask ⌝ }
 {
@@ -55,10 +59,11 @@ fn last_step(w: Word, fixed: usize, at: usize, mask: u32, target: u32, visited: 
                 found: true,
                 visited: visited | (1u32 << target),
                 parties,
+                tried: 0,
             };
         }
     }
-    none()
+    none(0)
 }
 
 // From party u along the places from `at` on.
@@ -84,6 +89,7 @@ pub fn party_search(
 }
 
 // The candidates after party u in ascending order, and from each to the party beyond. The target ends a path, so it is no candidate here.
+// Once those that failed have cost 16 parties for each place left, beside which a look at walks is cheap, a candidate with no walk onward is skipped.
 pub fn candidate_search(
     g: Table,
     w: Word,
@@ -99,28 +105,48 @@ pub fn candidate_search(
 {
     let len = w.len;
     let row = g.rows[u];
+    // every party, until walks were looked at
+    let mut onward: u32 = 4294967295;
+    let mut tried: u32 = 1;
     let mut v: usize = 0;
     while v < n {
         if v != target {
             let c = v as u32;
             if (visited >> c) & 1 == 0 {
-                if allows(w, fixed, at, row.masks[v]) {
-                    let more = visited | (1u32 << c);
-                    let mut f = none();
-                    if at + 2 < len {
-                        f = party_search(g, w, fixed, at + 1, n, v, target, more);
-                    } else {
-                        let beyond = g.rows[v];
-                        f = last_step(w, fixed, at + 1, beyond.masks[target], target as u32, more);
-                    }
-                    if f.found {
-                        f.parties[at + 1] = v as u8;
-                        return f;
+                if (onward >> c) & 1 == 1 {
+                    if allows(w, fixed, at, row.masks[v]) {
+                        let more = visited | (1u32 << c);
+                        let mut f = none(0);
+                        if at + 2 < len {
+                            f = party_search(g, w, fixed, at + 1, n, v, target, more);
+                        } else {
+                            let beyond = g.rows[v];
+                            f = last_step(
+                                w,
+                                fixed,
+                                at + 1,
+                                beyond.masks[target],
+                                target as u32,
+                                more,
+                            );
+                        }
+                        if f.found {
+                            f.parties[at + 1] = v as u8;
+                            return f;
+                        }
+                        if at + 2 < len {
+                            tried = std::num::wrapping_add_u32(tried, f.tried);
+                            if onward == 4294967295 {
+                                if (len - at) * 16 < tried as usize {
+                                    onward = walkable(g, w, fixed, at + 1, n, target, visited);
+                                }
+                            }
+                        }
                     }
                 }
             }
         }
         v += 1;
     }
-    none()
+    none(tried)
 }

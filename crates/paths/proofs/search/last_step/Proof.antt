@@ -44,7 +44,7 @@ returns c =
     let off : testBit (a .visited) (a .target) ≡ false = test-no _ _ (c .before .before .if1 .taken) in
     let on : placeOn (placeAt (a .w) (a .fixed) (a .at)) (a .mask) ≡ true = sym (c .before .allows .ensures) ∙ c .if2 .taken in
     let short = c .before .before .before .pre .0 .len in
-    let r : Found = record { found = true; visited = bitOr (a .visited) (1 * 2 ^ a .target % 4294967296); parties = set (replicate 32 0) (a .at + 1) (a .target) } in
+    let r : Found = record { found = true; visited = bitOr (a .visited) (1 * 2 ^ a .target % 4294967296); parties = set (replicate 32 0) (a .at + 1) (a .target); tried = 0 } in
     rw (off, on) (found-last (a .at) (a .visited) (a .target) r refl (with-code 32 _ _ (c .before .before .before .pre .1 .1)) (length-set (replicate {A = ℕ} 32 0) (a .at + 1) (a .target)) (getD-set-same (replicate {A = ℕ} 32 0) (a .at + 1) (a .target) 0 (omega (arith, c .before .before .before .pre .1 .0))))
 
 none-requires : tie.Need-none-requires
