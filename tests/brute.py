@@ -208,13 +208,22 @@ def next_word(house, u, v, word):
 
 
 class Known:
-    """A file's check, its house, and the words of its pairs, each reckoned once."""
+    """A file's check, its house, the words of its pairs and its verdict, each reckoned once.
 
-    def __init__(self, data):
+    other is known of a file that differs in its permits at most; words are taken from it."""
+
+    def __init__(self, data, other=None):
         self.refusal = check(data)
         self.house = None if self.refusal else decode(data)
         self.graph = None if self.refusal else enlarged(self.house)
         self.tables = {}
+        if other is not None:
+            if self.house._replace(permits=other.house.permits) != other.house:
+                raise ValueError("the files differ in more than permits")
+            self.tables = other.tables
+        self.lists = None
+        self.answer = None
+        self.mined = None
 
     def least_paths(self, u, v):
         """A dictionary from the pair's words, in word order, to the least path of each."""
@@ -228,6 +237,24 @@ class Known:
     def words(self, u, v):
         """The pair's words in word order."""
         return list(self.least_paths(u, v))
+
+    def table(self):
+        """The words of every pair."""
+        if self.lists is None:
+            self.lists = {pair: self.words(*pair) for pair in pairs(self.house)}
+        return self.lists
+
+    def verdict(self):
+        """The verdict of an accepted file."""
+        if self.answer is None:
+            self.answer = verdict(self.house, self.table())
+        return self.answer
+
+    def terms(self):
+        """The rule list of a convertible file."""
+        if self.mined is None:
+            self.mined = mine(self.house, self.table())
+        return self.mined
 
 
 # ------------------------------------------------------- terms and rule lists
@@ -369,29 +396,31 @@ def call_check(data):
 
 
 def call_verdict(data):
-    number = check(data)
-    if number:
-        return ("refused", number)
-    house = decode(data)
-    return verdict(house, word_table(house))
+    return verdict_reply(Known(data))
+
+
+def verdict_reply(known):
+    """The same for a file of which something is known."""
+    return ("refused", known.refusal) if known.refusal else known.verdict()
 
 
 def call_mining(data, scratch, output):
     """The reply, scratch afterwards, output afterwards."""
-    number = check(data)
-    if number:
-        return ("refused", number), scratch, output
+    return mining_reply(Known(data), scratch, output)
+
+
+def mining_reply(known, scratch, output):
+    """The same for a file of which something is known."""
+    if known.refusal:
+        return ("refused", known.refusal), scratch, output
     if len(scratch) < SCRATCH_LENGTH:
         return ("refused", 12), scratch, output
-    house = decode(data)
-    table = word_table(house)
-    if verdict(house, table)[0] != "convertible":
+    if known.verdict()[0] != "convertible":
         return ("refused", 13), scratch, output
-    terms = mine(house, table)
-    listed = encode_list(terms)
+    listed = encode_list(known.terms())
     if len(output) < len(listed):
         return ("refused", 14), written_over(scratch, bytes(SCRATCH_LENGTH)), output
-    scratch = written_over(scratch, scratch_table(house, table, terms))
+    scratch = written_over(scratch, scratch_table(known.house, known.table(), known.terms()))
     return ("length", len(listed)), scratch, written_over(output, listed)
 
 
@@ -485,13 +514,14 @@ def text_reply(known, listed):
 
 def permitconv(data, room=PROGRAM_LIST):
     """What the program prints for this standard input. room is its longest list."""
-    data = data[:PROGRAM_INPUT]
-    number = check(data)
-    if number:
-        return "refused %d\n" % number
-    house = decode(data)
-    table = word_table(house)
-    answer = verdict(house, table)
+    return program_text(Known(data[:PROGRAM_INPUT]), room)
+
+
+def program_text(known, room=PROGRAM_LIST):
+    """The same for a file of which something is known."""
+    if known.refusal:
+        return "refused %d\n" % known.refusal
+    answer = known.verdict()
     if answer[0] == "no-word":
         return "not-convertible %d %d no-word\n" % answer[1]
     if answer[0] == "rival":
@@ -499,4 +529,4 @@ def permitconv(data, room=PROGRAM_LIST):
     text = "convertible %d\n" % answer[1]
     if answer[1] > room:
         return text + "refused 14\n"
-    return text + list_text(mine(house, table))
+    return text + list_text(known.terms())

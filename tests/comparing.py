@@ -29,6 +29,17 @@ class Tally:
         print(line)
         self.failed += times
 
+    def hold(self, same, lines):
+        """One more reply; the lines that lines() gives are printed where it differs, for the first few."""
+        self.frames += 1
+        if same:
+            self.passed += 1
+            return
+        self.failed += 1
+        if self.shown < DIFFERENCES_SHOWN:
+            self.shown += 1
+            print("\n".join(lines()))
+
     def close(self):
         """Print the last line; returns the exit status. Without a frame nothing has passed."""
         if self.frames == 0 and self.failed == 0:

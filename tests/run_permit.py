@@ -99,6 +99,15 @@ class Lister(run_paths.Asker):
         return [[self.legal_word() for _ in range(self.rng.randint(1, 3))]
                 for _ in range(self.rng.randint(1, most))]
 
+    def own_terms(self):
+        """One to three terms, each of some pair's words."""
+        return [self.own_term(self.some_pair(), 3) for _ in range(self.rng.randint(1, 3))]
+
+    def permitted_by(self, terms):
+        """The pairs that the list permits."""
+        return {pair for pair in brute.pairs(self.house)
+                if brute.permits_by(terms, self.known.least_paths(*pair))}
+
     def longest_terms(self, pair):
         """Words of D symbols; the longest of the pair's among them at times."""
         term = [self.legal_of_length(self.house.longest) for _ in range(self.rng.randint(1, 3))]
@@ -312,14 +321,11 @@ def add_mined(collection):
         known = known_file(rng, matter)[1]
         lister = Lister(rng, known)
         every = brute.pairs(known.house)
-        table = {pair: known.least_paths(*pair) for pair in every}
-        terms = [lister.own_term(lister.some_pair(), 3) for _ in range(rng.randint(1, 3))]
-        permits = {pair for pair in every if brute.permits_by(terms, table[pair])}
-        data, known_again = known_file(rng, matter._replace(permits=permits))
-        table = {pair: known_again.words(*pair) for pair in every}
-        if brute.verdict(known_again.house, table)[0] != "convertible":
+        terms = lister.own_terms()
+        data, known_again = known_file(rng, matter._replace(permits=lister.permitted_by(terms)))
+        if known_again.verdict()[0] != "convertible":
             raise AssertionError("the pairs that a list permits are convertible")
-        mined = brute.encode_list(brute.mine(known_again.house, table))
+        mined = brute.encode_list(known_again.terms())
         wrong = [lister.wrong_pair(), (rng.randrange(matter.n),) * 2, (matter.n, 0), (0, matter.n)]
         collection.add(data, known_again, mined, *every, *wrong)
         collection.add(data, known_again, brute.encode_list(terms + lister.legal_terms()), *every)

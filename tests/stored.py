@@ -390,6 +390,11 @@ def file_of(row):
     return bytes.fromhex(row[2])
 
 
+def case_file(name):
+    """The file of the rows with this name, such as the letter of a case."""
+    return [file_of(row) for row in ROWS if row[0] == name][0]
+
+
 def file_case(row):
     """The frame and the lines of a row of ROWS."""
     return script.Case(script.frame(row[1], file_of(row)), row[3])

@@ -26,11 +26,6 @@ def hexadecimal(text):
     return bytes.fromhex(text)
 
 
-def case_file(letter):
-    """The file of a case A to J, from the stored rows."""
-    return [stored.file_of(row) for row in stored.ROWS if row[0] == letter][0]
-
-
 def file_with(n, edges, permits=(), labels=1, language=0, longest=2):
     """A file that says this."""
     matter = files.Matter(n, labels, language, longest, set(edges), set(permits))
@@ -89,20 +84,20 @@ class TenCases(unittest.TestCase):
 
     def test_files_are_accepted(self):
         for letter in CASES:
-            self.assertEqual(brute.call_check(case_file(letter)), ("accepted",), letter)
+            self.assertEqual(brute.call_check(stored.case_file(letter)), ("accepted",), letter)
 
     def test_a_is_the_file_of_26_bytes(self):
-        self.assertEqual(len(case_file("A")), 26)
+        self.assertEqual(len(stored.case_file("A")), 26)
 
     def test_verdicts(self):
         for letter in CASES:
-            self.assertEqual(brute.call_verdict(case_file(letter)), VERDICTS[letter], letter)
+            self.assertEqual(brute.call_verdict(stored.case_file(letter)), VERDICTS[letter], letter)
 
     def test_mined_lists(self):
         for letter, text in LISTS.items():
             listed = hexadecimal(text)
             reply, scratch, output = brute.call_mining(
-                case_file(letter), b"\xAA" * 1030, b"\xBB" * 20)
+                stored.case_file(letter), b"\xAA" * 1030, b"\xBB" * 20)
             self.assertEqual(reply, ("length", len(listed)), letter)
             self.assertEqual(output, listed + b"\xBB" * (20 - len(listed)), letter)
             ones = [at for at in range(1024) if scratch[at] == 1]
@@ -114,35 +109,35 @@ class TenCases(unittest.TestCase):
         for letter, text in LISTS.items():
             listed = hexadecimal(text)
             reply, _, output = brute.call_mining(
-                case_file(letter), bytes(1024), b"\xBB" * len(listed))
+                stored.case_file(letter), bytes(1024), b"\xBB" * len(listed))
             self.assertEqual((reply, output), (("length", len(listed)), listed), letter)
 
     def test_others_are_refused_13(self):
         for letter in CASES:
             if letter not in LISTS:
-                self.assertEqual(brute.call_mining(case_file(letter), b"\xAA" * 1024, b""),
+                self.assertEqual(brute.call_mining(stored.case_file(letter), b"\xAA" * 1024, b""),
                                  (("refused", 13), b"\xAA" * 1024, b""), letter)
 
     def test_permit_of_each_list(self):
         for letter, text in LISTS.items():
-            house = brute.decode(case_file(letter))
+            house = brute.decode(stored.case_file(letter))
             for u, v in brute.pairs(house):
-                answer = brute.call_permit(case_file(letter), hexadecimal(text), u, v)
+                answer = brute.call_permit(stored.case_file(letter), hexadecimal(text), u, v)
                 wanted = ("yes",) if (u, v) in house.permits else ("no",)
                 self.assertEqual(answer, wanted, (letter, u, v))
 
     def test_permitconv(self):
         for letter in CASES:
-            self.assertEqual(brute.permitconv(case_file(letter)), TEXTS[letter], letter)
+            self.assertEqual(brute.permitconv(stored.case_file(letter)), TEXTS[letter], letter)
 
     def test_permitconv_refused(self):
-        data = case_file("A")
+        data = stored.case_file("A")
         self.assertEqual(brute.permitconv(data[:20] + b"\x01\x00" + data[22:]), "refused 4\n")
         self.assertEqual(brute.permitconv(data + bytes(40000)), "refused 1\n")
 
     def test_permitconv_list_too_long(self):
-        self.assertEqual(brute.permitconv(case_file("A"), room=7), "convertible 7\n00.00\n")
-        self.assertEqual(brute.permitconv(case_file("A"), room=6), "convertible 7\nrefused 14\n")
+        self.assertEqual(brute.permitconv(stored.case_file("A"), room=7), "convertible 7\n00.00\n")
+        self.assertEqual(brute.permitconv(stored.case_file("A"), room=6), "convertible 7\nrefused 14\n")
 
     def test_permitconv_two_terms(self):
         data = file_with(3, [(0, 1, 0), (1, 2, 1)], [(0, 1), (1, 2)], labels=2, longest=1)
@@ -153,13 +148,13 @@ class RuledOut(unittest.TestCase):
 
     def test_one_rival_for_all_words(self):
         # In H each word of (0,1) is also a word of an unpermitted pair, but no pair has both.
-        house = brute.decode(case_file("H"))
+        house = brute.decode(stored.case_file("H"))
         self.assertEqual(brute.words(house, 0, 2), [(0,)])
         self.assertEqual(brute.words(house, 1, 2), [(4,)])
         self.assertIsNone(brute.first_rival(house, brute.word_table(house), (0, 1)))
 
     def test_no_party_twice(self):
-        house = brute.decode(case_file("I"))
+        house = brute.decode(stored.case_file("I"))
         self.assertEqual(brute.words(house, 0, 1), [(0,)])
 
     def test_the_pairs_second_party_only_at_the_end(self):
@@ -167,11 +162,11 @@ class RuledOut(unittest.TestCase):
         self.assertEqual(brute.words(house, 0, 1), [(0,)])
 
     def test_no_term_without_words(self):
-        self.assertEqual(brute.call_permit(case_file("A"), hexadecimal("01 00 00 00"), 0, 2),
+        self.assertEqual(brute.call_permit(stored.case_file("A"), hexadecimal("01 00 00 00"), 0, 2),
                          ("refused", 9))
 
     def test_no_absence_between_a_party_and_itself(self):
-        house = brute.decode(case_file("J"))
+        house = brute.decode(stored.case_file("J"))
         for u in range(2):
             for symbol in range(4):
                 self.assertFalse(brute.holds(house, u, u, symbol))
@@ -179,12 +174,12 @@ class RuledOut(unittest.TestCase):
 
     def test_a_rival_is_unpermitted(self):
         # In F the two permitted pairs have the same words.
-        house = brute.decode(case_file("F"))
+        house = brute.decode(stored.case_file("F"))
         self.assertEqual(brute.words(house, 0, 1), brute.words(house, 1, 2))
-        self.assertEqual(brute.call_verdict(case_file("F"))[0], "convertible")
+        self.assertEqual(brute.call_verdict(stored.case_file("F"))[0], "convertible")
 
     def test_all_relations_of_a_pair_count(self):
-        house = brute.decode(case_file("H"))
+        house = brute.decode(stored.case_file("H"))
         self.assertEqual(brute.words(house, 0, 1), [(0,), (4,)])
 
 
@@ -232,12 +227,12 @@ class NextWord(unittest.TestCase):
 
     def test_walks(self):
         self.assertEqual(self.walk(self.BASE_3, 0, 2), self.BASE_3_WORDS)
-        self.assertEqual(self.walk(case_file("A"), 0, 2), [(0, 0)])
-        self.assertEqual(self.walk(case_file("C"), 2, 0), [])
-        self.assertEqual(self.walk(case_file("D"), 0, 2), [])
-        self.assertEqual(self.walk(case_file("G"), 2, 0), [(2, 2)])
-        self.assertEqual(self.walk(case_file("H"), 0, 1), [(0,), (4,)])
-        self.assertEqual(self.walk(case_file("I"), 0, 1), [(0,)])
+        self.assertEqual(self.walk(stored.case_file("A"), 0, 2), [(0, 0)])
+        self.assertEqual(self.walk(stored.case_file("C"), 2, 0), [])
+        self.assertEqual(self.walk(stored.case_file("D"), 0, 2), [])
+        self.assertEqual(self.walk(stored.case_file("G"), 2, 0), [(2, 2)])
+        self.assertEqual(self.walk(stored.case_file("H"), 0, 1), [(0,), (4,)])
+        self.assertEqual(self.walk(stored.case_file("I"), 0, 1), [(0,)])
 
     def test_the_given_word_need_not_be_the_pairs(self):
         house = brute.decode(self.BASE_3)
@@ -261,13 +256,13 @@ class NextWord(unittest.TestCase):
 class Path(unittest.TestCase):
 
     def test_written_and_returned(self):
-        self.assertEqual(brute.call_path(case_file("A"), 0, 2, (0, 0), b"\xAA" * 5),
+        self.assertEqual(brute.call_path(stored.case_file("A"), 0, 2, (0, 0), b"\xAA" * 5),
                          (("parties", 3), hexadecimal("00 01 02 AA AA")))
-        self.assertEqual(brute.call_path(case_file("G"), 2, 0, (2, 2), b"\xAA" * 3),
+        self.assertEqual(brute.call_path(stored.case_file("G"), 2, 0, (2, 2), b"\xAA" * 3),
                          (("parties", 3), hexadecimal("02 01 00")))
 
     def test_lacks(self):
-        self.assertEqual(brute.call_path(case_file("A"), 0, 2, (0,), b"\xAA" * 5),
+        self.assertEqual(brute.call_path(stored.case_file("A"), 0, 2, (0,), b"\xAA" * 5),
                          (("lacks",), b"\xAA" * 5))
 
     def test_the_lower_party_at_the_first_difference(self):
@@ -331,7 +326,7 @@ class Mining(unittest.TestCase):
 class RuleLists(unittest.TestCase):
 
     def broken(self, text, data=None):
-        data = case_file("A") if data is None else data
+        data = stored.case_file("A") if data is None else data
         self.assertEqual(brute.call_permit(data, hexadecimal(text), 0, 2), ("refused", 9), text)
 
     def test_layout(self):
@@ -366,10 +361,10 @@ class RuleLists(unittest.TestCase):
         self.broken("02 00  01 00 02 00 00  01 00 01 04")
 
     def test_the_empty_list_permits_nothing(self):
-        self.assertEqual(brute.call_permit(case_file("A"), hexadecimal("00 00"), 0, 2), ("no",))
+        self.assertEqual(brute.call_permit(stored.case_file("A"), hexadecimal("00 00"), 0, 2), ("no",))
 
     def test_a_pair_meets_a_term_when_it_has_all_its_words(self):
-        data = case_file("H")
+        data = stored.case_file("H")
         both = hexadecimal("01 00  02 00  01 00  01 04")
         either = hexadecimal("02 00  01 00 01 00  01 00 01 04")
         self.assertEqual(brute.call_permit(data, both, 0, 1), ("yes",))
@@ -391,12 +386,12 @@ class RuleLists(unittest.TestCase):
 
 class RefusalOrder(unittest.TestCase):
 
-    BAD_FILE = b"\x02" + case_file("A")[1:]
-    A = case_file("A")
+    BAD_FILE = b"\x02" + stored.case_file("A")[1:]
+    A = stored.case_file("A")
 
     def test_mining(self):
         scratch, output = b"\xAA" * 1030, b"\xBB" * 9
-        b = case_file("B")
+        b = stored.case_file("B")
         self.assertEqual(brute.call_mining(self.BAD_FILE, b"", b""), (("refused", 2), b"", b""))
         short = b"\xAA" * 1023
         self.assertEqual(brute.call_mining(b, short, b""), (("refused", 12), short, b""))
@@ -760,7 +755,7 @@ class Script(unittest.TestCase):
         self.assertEqual(lines[-1], "relation 31 30 FF")
 
     def test_missing_output_never_passes(self):
-        frames = [("c", case_file("A")), ("d", case_file("A")), ("c", b"")]
+        frames = [("c", stored.case_file("A")), ("d", stored.case_file("A")), ("c", b"")]
         texts = [script.expected(call, data) for call, data in frames]
         whole = "".join(texts)
         self.assertEqual(comparing.compare(texts, whole)[0], [])
@@ -782,7 +777,7 @@ class WordCalls(unittest.TestCase):
 
     def text(self, call, letter, first, second, given, lent):
         output = self.BEFORE + lent + self.AFTER
-        known = brute.Known(case_file(letter))
+        known = brute.Known(stored.case_file(letter))
         return script.word_text(call, *script.word_reply(call, known, first, second, given, output))
 
     def lines(self, answer, lent):
@@ -853,10 +848,10 @@ class ListCalls(unittest.TestCase):
     """The expected lines of permit and of the text of a list."""
 
     def permit(self, letter, text, first, second):
-        return script.permit_text(brute.permit_reply(brute.Known(case_file(letter)), first, second, hexadecimal(text)))
+        return script.permit_text(brute.permit_reply(brute.Known(stored.case_file(letter)), first, second, hexadecimal(text)))
 
     def text(self, letter, text):
-        return script.list_text(brute.text_reply(brute.Known(case_file(letter)), hexadecimal(text)))
+        return script.list_text(brute.text_reply(brute.Known(stored.case_file(letter)), hexadecimal(text)))
 
     def test_frames_by_hand(self):
         frame = script.list_frame("r", b"\x01\x02", b"\x00\x00\x05", 3, 4)
@@ -909,7 +904,7 @@ class ListCalls(unittest.TestCase):
             self.assertEqual(sum(len(one) == len(listed) and one[at] != listed[at] for one in changed), 2)
 
     def test_faults_are_named(self):
-        house = brute.decode(case_file("A"))
+        house = brute.decode(stored.case_file("A"))
         for text, terms, fault in (
                 ("01 00 01 00 02 00 00", [[(0, 0)]], None),
                 ("02 00 01 00 01 00 01 00 00", [[(0,)]], "a word of length 0"),

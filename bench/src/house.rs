@@ -1,8 +1,8 @@
 //! House files: reading with the check of document 01, and laying out.
 
-use crate::twin::{Graph, MOST_PARTIES};
+use crate::twin::{Graph, Pair, MOST_PARTIES};
 
-const PERMIT_KIND: u8 = 0xFF;
+pub const PERMIT_KIND: u8 = 0xFF;
 const MOST_RECORDS: usize = 8928;
 
 /// What the searches need of an accepted file.
@@ -12,7 +12,11 @@ pub struct House {
     pub language: u8,
     pub longest: usize,
     pub graph: Graph,
+    pub permits: Permits,
 }
+
+/// Bit v of mask u stands for the permit of (u, v).
+pub type Permits = [u32; MOST_PARTIES];
 
 /// Bit l of an entry stands for label l from the row's party to the column's.
 type Relations = [[u8; MOST_PARTIES]; MOST_PARTIES];
@@ -25,6 +29,21 @@ impl House {
 
     pub fn is_pair(&self, first: usize, second: usize) -> bool {
         first < self.parties && second < self.parties && first != second
+    }
+
+    pub fn is_permitted(&self, first: usize, second: usize) -> bool {
+        self.permits[first] >> second & 1 != 0
+    }
+
+    /// The pairs in pair order.
+    pub fn pairs(&self) -> impl Iterator<Item = (usize, usize)> {
+        let parties = self.parties;
+        (0..parties).flat_map(move |u| (0..parties).filter(move |&v| v != u).map(move |v| (u, v)))
+    }
+
+    /// What the searches of a pair need.
+    pub fn pair(&self, (first, second): (usize, usize)) -> Pair<'_> {
+        Pair { graph: &self.graph, parties: self.parties, first, second }
     }
 }
 
@@ -58,18 +77,18 @@ pub fn read(file: &[u8]) -> Result<House, u8> {
     if file.len() != 8 + 2 * parties + 4 * records {
         return Err(1);
     }
-    let relations = relations_of(file, parties, labels, records)?;
+    let (relations, permits) = follow(file, parties, labels, records)?;
     let graph = enlarge(&relations, parties, labels, language);
-    Ok(House { parties, labels, language, longest, graph })
+    Ok(House { parties, labels, language, longest, graph, permits })
 }
 
 /// Follows the chains of all parties in order.
-fn relations_of(file: &[u8], parties: usize, labels: usize, records: usize) -> Result<Relations, u8> {
+fn follow(file: &[u8], parties: usize, labels: usize, records: usize) -> Result<(Relations, Permits), u8> {
     let mut relations = [[0u8; MOST_PARTIES]; MOST_PARTIES];
+    let mut permits = [0u32; MOST_PARTIES];
     let mut reached = [false; MOST_RECORDS + 1];
     let mut count = 0;
     for party in 0..parties {
-        let mut permits = 0u32;
         let mut link = two_bytes(file, 8 + 2 * party);
         while link != 0 {
             if link > records {
@@ -89,10 +108,10 @@ fn relations_of(file: &[u8], parties: usize, labels: usize, records: usize) -> R
                 return Err(7);
             }
             if kind == PERMIT_KIND {
-                if permits >> target & 1 != 0 {
+                if permits[party] >> target & 1 != 0 {
                     return Err(8);
                 }
-                permits |= 1 << target;
+                permits[party] |= 1 << target;
             } else {
                 if relations[party][target] >> kind & 1 != 0 {
                     return Err(8);
@@ -105,7 +124,7 @@ fn relations_of(file: &[u8], parties: usize, labels: usize, records: usize) -> R
     if count < records {
         return Err(5);
     }
-    Ok(relations)
+    Ok((relations, permits))
 }
 
 /// For each two parties the symbols of the language that hold.
@@ -130,7 +149,8 @@ fn enlarge(relations: &Relations, parties: usize, labels: usize, language: u8) -
     graph
 }
 
-/// The bytes of a file with these relations (from, to, label) and no permits, each chain in the order given.
+/// The bytes of a file with these relations (from, to, label), each chain in the order given.
+/// A permit stands among them with PERMIT_KIND as its label.
 pub fn lay_out(parties: usize, labels: usize, language: u8, longest: usize,
                relations: &[(usize, usize, usize)]) -> Vec<u8> {
     let mut heads = vec![0usize; parties];

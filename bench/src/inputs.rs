@@ -25,7 +25,7 @@ pub struct Input {
 }
 
 /// A small random source (splitmix64).
-pub struct Random(u64);
+pub struct Random(pub u64);
 
 impl Random {
     fn next(&mut self) -> u64 {
@@ -36,7 +36,7 @@ impl Random {
         z ^ (z >> 31)
     }
 
-    fn below(&mut self, limit: usize) -> usize {
+    pub fn below(&mut self, limit: usize) -> usize {
         (self.next() % limit as u64) as usize
     }
 }
@@ -100,7 +100,7 @@ fn sparse(random: &mut Random, parties: usize, labels: usize) -> Vec<(usize, usi
 }
 
 /// Each relation that can be, or not, by the throw of a coin.
-fn dense(random: &mut Random, parties: usize, labels: usize) -> Vec<(usize, usize, usize)> {
+pub fn dense(random: &mut Random, parties: usize, labels: usize) -> Vec<(usize, usize, usize)> {
     let mut relations = Vec::new();
     for from in 0..parties {
         for to in (0..parties).filter(|&to| to != from) {
@@ -147,7 +147,7 @@ fn searches(random: &mut Random, house: &House) -> Vec<u8> {
 }
 
 /// A walk at random that visits no party twice gives a pair and a word of it, of at most this length.
-fn own_word(random: &mut Random, house: &House, length: usize) -> (usize, usize, Word) {
+pub fn own_word(random: &mut Random, house: &House, length: usize) -> (usize, usize, Word) {
     let first = random.below(house.parties);
     let (mut party, mut visited, mut word) = (first, 1u32 << first, Word::EMPTY);
     while word.length < length {

@@ -5,14 +5,17 @@
 //!
 //! build.sh builds it with or without the archive.
 
+#![allow(dead_code)] // modules are shared with the other program
+
 mod house;
 mod inputs;
 mod script;
+mod timing;
 mod twin;
 
 use inputs::{Input, RECORD};
 use std::hint::black_box;
-use std::time::Duration;
+use timing::RUNS;
 use twin::{Pair, Word};
 
 #[cfg(product)]
@@ -49,12 +52,7 @@ mod product {
 // ------------------------------------------------------------- the twin's two runs
 
 fn pair_and_word<'a>(house: &'a house::House, record: &[u8]) -> (Pair<'a>, Word) {
-    let pair = Pair {
-        graph: &house.graph,
-        parties: house.parties,
-        first: record[0] as usize,
-        second: record[1] as usize,
-    };
+    let pair = house.pair((record[0] as usize, record[1] as usize));
     let word = Word { length: record[2] as usize, symbols: record[3..].try_into().unwrap() };
     (pair, word)
 }
@@ -91,11 +89,6 @@ fn twin_next(file: &[u8], calls: &[u8], steps: u64) -> u64 {
 }
 
 // ------------------------------------------------------------------------ the table
-
-const RUNS: usize = 3;
-const LEAST_TIME_OF_RUN: Duration = Duration::from_millis(10);
-const MOST_TIME_OF_PRODUCT: Duration = Duration::from_millis(500);
-const MOST_TIME_OF_ROW: Duration = Duration::from_millis(1000);
 
 /// A row: the call, and the input and list of calls it runs on.
 struct Row<'a> {
@@ -141,102 +134,17 @@ fn rows(inputs: &[Input]) -> Vec<Row<'_>> {
     rows
 }
 
-/// The processor time that this process has used. Other work on the machine isn't counted in it.
-fn used() -> Duration {
-    #[repr(C)]
-    struct Time {
-        seconds: i64,
-        nanoseconds: i64,
-    }
-    extern "C" {
-        fn clock_gettime(clock: i32, time: *mut Time) -> i32;
-    }
-    const PROCESS: i32 = 2;
-    let mut time = Time { seconds: 0, nanoseconds: 0 };
-    let status = unsafe { clock_gettime(PROCESS, &mut time) };
-    assert_eq!(status, 0, "the processor's clock can be read");
-    Duration::new(time.seconds as u64, time.nanoseconds as u32)
-}
-
-/// The time of a run of this many rounds.
-fn time(rounds: u32, round: &dyn Fn() -> u64) -> Duration {
-    let start = used();
-    for _ in 0..rounds {
-        black_box(round());
-    }
-    used() - start
-}
-
-/// The answer that twin and product agree on, and the time of one round of the product.
-fn answer_of(row: &Row) -> (u64, Duration) {
-    let answer = row.twin();
-    if !product::LINKED {
-        return (answer, Duration::ZERO);
-    }
-    let start = used();
-    assert_eq!(answer, row.product(), "twin and product differ: {}", row.name());
-    (answer, used() - start)
-}
-
-/// How many rounds a run has: enough for the twin's run to be measured, and
-/// fewer where the product's run would be very long.
-fn rounds_of(row: &Row, product_once: Duration) -> u32 {
-    let mut rounds = 1;
-    while time(rounds, &|| row.twin()) < LEAST_TIME_OF_RUN {
-        rounds *= 2;
-    }
-    while rounds > 1 && product_once * rounds > MOST_TIME_OF_PRODUCT {
-        rounds /= 2;
-    }
-    rounds
-}
-
-/// The least times of the twin's and the product's runs, which take turns.
-fn least_times(row: &Row, rounds: u32) -> (Duration, Duration) {
-    let (mut twin, mut product) = (Duration::MAX, Duration::MAX);
-    let start = used();
-    for run in 0..RUNS {
-        if run > 0 && used() - start > MOST_TIME_OF_ROW {
-            break;
-        }
-        twin = twin.min(time(rounds, &|| row.twin()));
-        if product::LINKED {
-            product = product.min(time(rounds, &|| row.product()));
-        }
-    }
-    (twin, product)
-}
-
 fn print_table(rows: &[Row]) {
     println!("Microseconds of processor time for all calls of a row, the least of up to {RUNS} runs.");
     println!("call      graph      n   D  lang   answer        twin     product   ratio");
     let mut ratios = Vec::new();
     for row in rows {
-        let (answer, product_once) = answer_of(row);
-        let rounds = rounds_of(row, product_once);
-        let (twin, product) = least_times(row, rounds);
-        let micros = |time: Duration| time.as_secs_f64() * 1e6 / rounds as f64;
-        print!("{}{:>9}{:>12.1}", row.name(), answer, micros(twin));
-        if product::LINKED {
-            let ratio = micros(product) / micros(twin);
-            ratios.push((row.call, ratio));
-            println!("{:>12.1}{:>8.2}", micros(product), ratio);
-        } else {
-            println!("{:>12}{:>8}", "-", "-");
-        }
+        let product = || row.product();
+        let measured = timing::measure(&row.name(), &|| row.twin(), product::LINKED.then_some(&product));
+        println!("{}{:>9}{}", row.name(), measured.answer, measured.columns());
+        ratios.extend(measured.ratio().map(|ratio| (row.call, ratio)));
     }
-    print_summary(&ratios);
-}
-
-fn print_summary(ratios: &[(&str, f64)]) {
-    for call in ["search", "next-word", "load"] {
-        let of_call: Vec<f64> = ratios.iter().filter(|(name, _)| *name == call).map(|(_, ratio)| *ratio).collect();
-        if !of_call.is_empty() {
-            let largest = of_call.iter().copied().fold(0.0, f64::max);
-            let mean = (of_call.iter().map(|ratio| ratio.ln()).sum::<f64>() / of_call.len() as f64).exp();
-            println!("{call}: largest ratio {largest:.2}, geometric mean {mean:.2}");
-        }
-    }
+    timing::print_summary(&["search", "next-word", "load"], &ratios);
 }
 
 fn main() {

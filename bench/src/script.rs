@@ -3,7 +3,7 @@
 //! frames are described in tests/script.py.
 
 use crate::house;
-use crate::twin::{self, Pair, Word, LONGEST_WORD};
+use crate::twin::{self, Word, LONGEST_WORD};
 use std::io::{Read, Write};
 
 const HEADER: usize = 24;
@@ -60,7 +60,7 @@ fn reply_of(call: u8, file: &[u8], first: usize, second: usize, given: &[u8], ro
     }
     let mut word = Word { length, ..Word::EMPTY };
     word.symbols.copy_from_slice(&given[1..1 + LONGEST_WORD]);
-    let pair = Pair { graph: &house.graph, parties: house.parties, first, second };
+    let pair = house.pair((first, second));
     if call == b'p' {
         if length == 0 {
             return Reply::Refused(11);

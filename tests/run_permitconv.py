@@ -1,0 +1,145 @@
+"""Hold what the program permitconv prints against brute.py, byte for byte, on many files.
+
+    python3 tests/run_permitconv.py PATH_OF_PERMITCONV_BINARY
+
+The files are those of converting.py, the examples, some of large_console.py, and
+inputs about as long as the program reads. The seeds are fixed. The last line
+printed is `N passed, M failed`: N counts files; M counts files and, beside
+them, demands on the set of files that are not met. The exit status is 0 only
+where M is 0.
+"""
+
+import os
+import random
+import subprocess
+import sys
+from collections import Counter
+
+import brute
+import comparing
+import converting
+import files
+import large_console
+import make_examples
+import run_paths
+import stored
+
+GRAPHS = 450
+WIDE_GRAPHS = 15
+DAMAGED_FILES = 500
+SECONDS_FOR_FILE = 300
+REFUSED = "A with record 2's next 01 00"
+
+# What 01 prints itself.
+WRITTEN = [("A", "convertible 7\n00.00\n"), ("B", "not-convertible 0 1 rival 1 2\n"),
+           ("C", "not-convertible 2 0 no-word\n"), (REFUSED, "refused 4\n")]
+
+
+# ------------------------------------------------------------------ the files
+
+def text_of_row(row):
+    """What is printed for a row of large_console.py."""
+    if row.reply[0] == "no-word":
+        return "not-convertible %d %d no-word\n" % row.reply[1]
+    if row.reply[0] == "rival":
+        return "not-convertible %d %d rival %d %d\n" % (row.reply[1] + row.reply[2])
+    first = "convertible %d\n" % row.reply[1]
+    return first + ("refused 14\n" if row.reply[1] > brute.PROGRAM_LIST else brute.list_text(row.terms))
+
+
+def about_the_longest(rng):
+    """The longest legal file, and inputs that go on after it or after a shorter one. A longer input is
+    cut to 35,785 bytes, and so has no legal length; its header is looked at first."""
+    whole = files.full_draft(rng, 0, 31).bytes()
+    yield "the longest legal file", whole, "convertible 6\n00\n"
+    for more in (1, 2, 3, 4, 5000, 100000):
+        yield "longer than 35,784", whole + rng.randbytes(more), "refused 1\n"
+    yield "longer than 35,784", b"\2" + whole[1:] + b"\0\0", "refused 2\n"
+    for letter in "ABC":
+        data = stored.case_file(letter)
+        yield "longer than 35,784", data + bytes(brute.PROGRAM_INPUT), "refused 1\n"
+    yield "longer than 35,784", bytes(brute.PROGRAM_INPUT + 1), "refused 2\n"
+    yield "the empty input", b"", "refused 1\n"
+
+
+def all_files(rng):
+    """Every file: how it was made, its bytes, and the text that must be printed."""
+    for name, text in WRITTEN:
+        yield "written in 01", stored.case_file(name), text
+    for data in make_examples.examples().values():
+        yield "example", data, brute.permitconv(data)
+    for made in converting.drawn(rng, GRAPHS, WIDE_GRAPHS, DAMAGED_FILES):
+        yield made.kind, made.data, brute.program_text(made.known)
+    for row in large_console.table():
+        yield "larger file", row.data, text_of_row(row)
+    yield from about_the_longest(rng)
+
+
+# -------------------------------------------------------- what is demanded
+
+def occurrences(kind, text):
+    """The names of what occurs in a file's text."""
+    lines = text.splitlines()
+    parts = lines[0].split()
+    first = parts[0] if parts[0] == "convertible" else parts[0] + " " + parts[1] if parts[0] == "refused" else parts[3]
+    found = ["files", kind, first]
+    if first == "convertible":
+        found += ["no terms"] if len(lines) == 1 else ["several terms"] if len(lines) > 2 else []
+        found += ["several words in a term"] if " & " in text else []
+        found += ["several symbols in a word"] if "." in text else []
+        found += ["a list above 65,536 bytes"] if lines[1:] == ["refused 14"] else []
+        found += ["a list of 65,536 bytes"] if parts[1] == "65536" and len(lines) > 2 else []
+        found += ["a text above 4,096 bytes"] if len(text) > 4096 else []
+    return found
+
+
+# The least number of times that each must occur.
+DEMANDS = {
+    "files": 1500, "convertible": 500, "no-word": 100, "rival": 200,
+    "rules": 300, "one pair changed": 300, "random permits": 300, "damaged": 400, "one party": 10,
+    "no terms": 50, "several terms": 100, "several words in a term": 100, "several symbols in a word": 100,
+    "a list of 65,536 bytes": 1, "a list above 65,536 bytes": 1, "a text above 4,096 bytes": 3, "written in 01": 4, "example": 4,
+    "larger file": 40, "longer than 35,784": 10, "the longest legal file": 1, "the empty input": 1,
+}
+DEMANDS.update({"refused %d" % number: 10 for number in range(1, 9)})
+
+
+# ------------------------------------------------------------------- the run
+
+def printed(binary, data):
+    """What the program prints, or what went wrong."""
+    try:
+        ended = subprocess.run([binary], input=data, stdout=subprocess.PIPE, timeout=SECONDS_FOR_FILE)
+    except (OSError, subprocess.SubprocessError) as error:
+        return "(%s)" % error
+    text = ended.stdout.decode("latin-1")
+    return text if ended.returncode == 0 else "(status %d) %s" % (ended.returncode, text)
+
+
+def hold(tally, binary, kind, data, text):
+    found = printed(binary, data)
+    tally.hold(found == text, lambda: (
+        "difference in a file: %s" % kind, "  file: %s" % comparing.shortened(data),
+        "  expected: %r" % text[:400], "  printed:  %r" % found[:400]))
+
+
+def main(arguments):
+    tally = comparing.Tally()
+    if len(arguments) != 2:
+        tally.fault("usage: run_permitconv.py PATH_OF_PERMITCONV_BINARY")
+        return tally.close()
+    binary = os.path.abspath(arguments[1])
+    account, different = Counter(), set()
+    for kind, data, text in all_files(random.Random(808)):
+        hold(tally, binary, kind, data, text)
+        account.update(occurrences(kind, text))
+        different.add(data)
+    account["different files"] = len(different)
+    print(run_paths.account_text(account, "files"))
+    for line in run_paths.unmet(account, dict(DEMANDS, **{"different files": 1500})):
+        tally.fault(line)
+    return tally.close()
+
+
+if __name__ == "__main__":
+    sys.exit(main(sys.argv))
