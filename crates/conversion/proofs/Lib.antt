@@ -3,3 +3,5 @@ pub mod PassLaws
 pub mod WriteLaws
 pub mod JudgeLaws
 pub mod AnswerLaws
+pub mod RefusalNumbers
+pub mod Demand3

@@ -1,0 +1,358 @@
+-- Demand 3 of the verdict, mining, permit and path calls: the existence theorem of rebac, carried to the replies of the calls by the definitions that their contracts cite.
+use mathlib.Core.Path.{_≡_, refl, sym, ap, _∙_, subst}
+use mathlib.Core.Logic.{_↔_, _⊎_, inl, inr, ⊎-elim}
+use mathlib.Core.Bool.{Bool, true, false, not, _&&_}
+use mathlib.Core.List.{List, [], _∷_, _++_, map, List·Memᴰ, List·Memᴰ·head, List·Memᴰ·tail, List·Memᴰ·not-nil, List·Memᴰ·append-cases, Memᴰ·append-right}
+use mathlib.Core.Option.{none, some}
+use Prim.Native.Nat.{ℕ, zero, suc, _+_, _*_, _-_, _/_, _%_, _≤_, _<_}
+use native.Mathlib.Omega.{arith}
+use native.Mathlib.Nat.{suc-mul}
+use lib.Dec.{leb}
+use lib.ListN.{length, drop, getD, length-append, length-replicate, replicate, List·getD-append}
+use lib.Seq.{take-append-seam}
+use borrow.Author.Tests.{leb-true, le-leb, lt-leb, lt-ltb, ne-eqb, not-true}
+use Rattle.lists.specs.Lists.{flatMap, upFrom, range}
+use Rattle.lists.specs.Order.{Ascending, sumOf}
+use Rattle.lists.proofs.Cases.{by-test, by-found, by-mem, clash, both, and-both, and-left, and-right}
+use Rattle.lists.proofs.ListLaws.{First, all-in, all-of, map-out}
+use Rattle.lists.proofs.OrderLaws.{length-map, length-flat}
+use Rattle.rebac.specs.Matter.{Matter, Pair, pair, IsPair, pairsOf, pairBefore, permitted}
+use Rattle.rebac.specs.Words.{Word, lexLess}
+use Rattle.rebac.specs.Paths.{has, leastPath}
+use Rattle.rebac.specs.Symbols.{enlarged}
+use Rattle.rebac.specs.Verdict.{Verdict, convertible, noWord, rivalled, isConvertible, judge, rival, covers, spoils}
+use Rattle.rebac.specs.Existence.{problemOf, problemOver, verdictOf, minedList, plainTerm, plainList, permitsPair, Converts, MatterWord, score}
+use Rattle.rebac.specs.NextWord.{pairWords}
+use Rattle.rebac.proofs.SymbolsLaws.{listed-language}
+use Rattle.rebac.proofs.PairsLaws.{pairs-in, pairs-out, pairs-ascending}
+use Rattle.rebac.proofs.Reach.{has-in, has-out, least-is-path, least-is-least, least-none}
+use Rattle.rebac.proofs.SearchLaws.{least-size}
+use Rattle.rebac.proofs.VerdictLaws.{judge-word, judge-no-rival, NoWord, Rivalled}
+use Rattle.rebac.proofs.Conversion.{score-has, score-one, pair-words-in, pair-words-out, mined-words, mined-terms-few, mined-items-few, no-word-verdict, rival-verdict, convertible-iff, mined-converts}
+use Rattle.house_file.specs.Check.{checkOf}
+use Rattle.house_file.specs.declared.reply.Check.{Check}
+use Rattle.house_file.specs.declared.reply.Check.the-variants.{Accepted, Refused}
+use Rattle.house_file.specs.declared.reply.Refusal.{Refusal}
+use Rattle.graph.specs.Archive.{matterOf, Limits}
+use Rattle.graph.specs.Legal.{isPair, legalSymbol}
+use Rattle.graph.proofs.LoadLaws.{accepted-limits}
+use Rattle.paths.specs.Calls.{pathCall, found, writes, nothing, legalWord}
+use Rattle.paths.specs.declared.word.Word.{Word as WordValue}
+use Rattle.paths.specs.declared.call.Reply.the-variants.{Wrote as WrotePath}
+use Rattle.paths.proofs.CallLaws.{pair-of, path-answer}
+use Rattle.rules.specs.Reading.{wordOf}
+use Rattle.rules.specs.ListBytes.{encodeCount, encodeWord, encodeTerm, encodeList}
+use Rattle.rules.specs.Permit.{permitReply, yesOrNo}
+use Rattle.rules.proofs.MatterLists.{legal-symbol, permit-of-mined}
+use Rattle.mining.specs.Building.{named}
+use Rattle.mining.specs.declared.build.Pair.{Pair as PairValue}
+use Rattle.conversion.specs.declared.verdict.VerdictReply.the-variants as reply
+use Rattle.conversion.specs.Calls.{listOf, bytesOf, replyOf, verdictIn, verdictCall, oneIf, tableOf, miningIn, miningCall, tooShort, writes as writesList}
+use Rattle.conversion.specs.declared.mine.MiningReply.the-variants.{Wrote}
+use Rattle.conversion.specs.Demands.{pairIn, Carries, HasWord, Wordless, IsRival, Hinders, FirstPair, ShowsPath, MinesList}
+
+-- by the check's reply
+pub by-check : {G : Type 0} (c : Check) → (c ≡ Accepted → G) → ((x : Refusal) → c ≡ Refused x → G) → G
+by-check Accepted g h = g refl
+by-check (Refused x) g h = h x refl
+
+-- what a reply says of the verdict
+reply-convertible : (size k : ℕ) (v : Verdict Pair) → replyOf size v ≡ reply.Convertible k → (v ≡ convertible) × (size ≡ k)
+reply-convertible size k convertible e = (refl, cc)
+reply-convertible size k (noWord p) e = clash (cc e)
+reply-convertible size k (rivalled p q) e = clash (cc e)
+
+reply-no-word : (size : ℕ) (x : PairValue) (v : Verdict Pair) → replyOf size v ≡ reply.NoWord x → v ≡ noWord (pairIn x)
+reply-no-word size x convertible e = clash (cc e)
+reply-no-word size x (noWord p) e = let z : named p ≡ x = cc in rw (← z)
+reply-no-word size x (rivalled p q) e = clash (cc e)
+
+reply-rival : (size : ℕ) (x y : PairValue) (v : Verdict Pair) → replyOf size v ≡ reply.Rival x y → v ≡ rivalled (pairIn x) (pairIn y)
+reply-rival size x y convertible e = clash (cc e)
+reply-rival size x y (noWord p) e = clash (cc e)
+reply-rival size x y (rivalled p q) e = let a : named p ≡ x = cc in let b : named q ≡ y = cc in rw (← a, ← b)
+
+-- the first of the pairs that passes a test comes before every other that does
+ascending-after : {A : Type 0} (R : A → A → Bool) (l m : List A) (x y : A) → Ascending R (l ++ (x ∷ m)) → List·Memᴰ y m → R x y ≡ true
+ascending-after R [] m x y s k = s .0 y k
+ascending-after R (z ∷ l) m x y s k = ascending-after R l m x y (s .1) k
+
+first-in : {A : Type 0} {p : A → Bool} {l : List A} {x : A} → First p l x → List·Memᴰ x l
+first-in r = rw (r .split) (Memᴰ·append-right (r .pre) (List·Memᴰ·head refl))
+
+first-before : {A : Type 0} (R : A → A → Bool) {p : A → Bool} {l : List A} {x : A} → First p l x → Ascending R l → (y : A) → List·Memᴰ y l → p y ≡ true → (x ≡ y) ⊎ (R x y ≡ true)
+first-before R {p} {l} {x} r s y m h =
+    ⊎-elim
+    (λ k. both h (r .before k))
+    (λ k. by-mem k (λ e. inl (sym e)) (λ n. inr (ascending-after R (r .pre) (r .post) x y (rw (r .split) at s) n)))
+    (List·Memᴰ·append-cases (r .pre) (rw (r .split) at m))
+
+-- a matter's words and rivals, from the statements to the tests
+module _ (M : Matter) where
+  word-in : (p : Pair) (w : Word) → HasWord M p w → List·Memᴰ w (pairWords M p)
+  word-in p w h = pair-words-in M p w (h .0) (has-in (enlarged M) p w (h .1 .0) (h .1 .1))
+
+  word-out : (p : Pair) (w : Word) → List·Memᴰ w (pairWords M p) → HasWord M p w
+  word-out p w m = let r = pair-words-out M p w m in (r .0, has-out (enlarged M) p w (r .1))
+
+  listed : (p : Pair) → IsPair (M .parties) p → List·Memᴰ p (pairsOf (M .parties))
+  listed p h = pairs-in (M .parties) (p .first) (p .second) (h .first) (h .second) (h .different)
+
+  rival-in : (p q : Pair) → IsRival M p q → rival (problemOf M) p q ≡ true
+  unfolding rival covers problemOf problemOver pairWords
+  rival-in p q r =
+      rw (r .unpermitted)
+      (all-of _ (pairWords M p) (λ w m.
+      let h = word-out p w m in
+      let a : has (enlarged M) p w ≡ true = has-in (enlarged M) p w (h .1 .0) (h .1 .1) in
+      let k = r .all w h in
+      let b : has (enlarged M) q w ≡ true = has-in (enlarged M) q w (k .1 .0) (k .1 .1) in
+      rw (score-one M refl p w, score-one M refl q w, a, b)))
+
+  rival-out : (p q : Pair) → ((w : Word) × List·Memᴰ w (pairWords M p)) → List·Memᴰ q (pairsOf (M .parties)) → rival (problemOf M) p q ≡ true → IsRival M p q
+  unfolding rival covers problemOf problemOver pairWords
+  rival-out p q w m e =
+      let u : not (permitted M q) ≡ true = and-left (not (permitted M q)) _ e in
+      record {
+        words = (w .0, word-out p (w .0) (w .1));
+        isPair = pairs-out (M .parties) m;
+        unpermitted = not-true (permitted M q) u;
+        all = λ v h.
+            let a : has (enlarged M) p v ≡ true = has-in (enlarged M) p v (h .1 .0) (h .1 .1) in
+            let b : 1 ≤ score M p v = leb-true 1 (score M p v) (score-has M p v ∙ a) in
+            let c : score M p v ≤ score M q v = leb-true _ _ (all-in _ (pairWords M p) (and-right (not (permitted M q)) _ e) (word-in p v h)) in
+            (h .0, has-out (enlarged M) q v (sym (score-has M q v) ∙ le-leb 1 (score M q v) (omega arith)));
+      }
+
+  is-convertible : (v : Verdict Pair) → isConvertible (problemOf M) v ≡ true → v ≡ convertible
+  is-convertible convertible e = refl
+  is-convertible (noWord p) e = clash (sym e)
+  is-convertible (rivalled p q) e = clash (sym e)
+
+  hinders-in : (p : Pair) → Hinders M p → spoils (problemOf M) p ≡ true
+  unfolding spoils problemOf problemOver pairWords
+  hinders-in p h =
+      by-test (isConvertible (problemOf M) (judge (problemOf M) p))
+      (λ c.
+      let j = is-convertible (judge (problemOf M) p) c in
+      let w : (w : Word) × List·Memᴰ w (pairWords M p) = judge-word (problemOf M) p j in
+      ⊎-elim
+      (λ (n : Wordless M p). absurd (n (w .0) (word-out p (w .0) (w .1))))
+      (λ (r : (q : Pair) × IsRival M p q). both (rival-in p (r .0) (r .1)) (judge-no-rival (problemOf M) p j (r .0) (listed (r .0) (r .1 .isPair))))
+      (h .why))
+      (λ c. rw (h .permit, c))
+
+  -- the first pair that spoils a verdict is the first one that hinders
+  first-hinders : (p : Pair) → First (spoils (problemOf M)) (pairsOf (M .parties)) p → Hinders M p → FirstPair M (Hinders M) p
+  first-hinders p r h = record {
+    isPair = pairs-out (M .parties) (first-in r);
+    here = h;
+    first = λ x k g. first-before pairBefore r (pairs-ascending (M .parties)) x (listed x k) (hinders-in x g);
+  }
+
+  first-rival : (p q : Pair) → ((w : Word) × List·Memᴰ w (pairWords M p)) → First (rival (problemOf M) p) (pairsOf (M .parties)) q → FirstPair M (IsRival M p) q
+  first-rival p q w r = record {
+    isPair = pairs-out (M .parties) (first-in r);
+    here = rival-out p q w (first-in r) (r .here);
+    first = λ x k g. first-before pairBefore r (pairs-ascending (M .parties)) x (listed x k) (rival-in p x g);
+  }
+
+  -- the verdicts of a matter
+  no-word-first : (p : Pair) → verdictOf M ≡ noWord p → FirstPair M (Hinders M) p × Wordless M p
+  unfolding problemOf problemOver pairWords
+  no-word-first p v =
+      let r : NoWord (problemOf M) p = no-word-verdict M p v in
+      let n : Wordless M p = λ w h. List·Memᴰ·not-nil (rw (r .empty) at (word-in p w h)) in
+      (first-hinders p (r .first) (record { permit = r .permit; why = inl n }), n)
+
+  rival-first : (p q : Pair) → verdictOf M ≡ rivalled p q → FirstPair M (Hinders M) p × FirstPair M (IsRival M p) q
+  unfolding problemOf problemOver pairWords
+  rival-first p q v =
+      let r : Rivalled (problemOf M) p q = rival-verdict M p q v in
+      let s : FirstPair M (IsRival M p) q = first-rival p q (r .word) (r .firstRival) in
+      (first-hinders p (r .first) (record { permit = r .permit; why = inr (q, s .here) }), s)
+
+-- a word value that carries a word of the matter is legal and not empty
+pub value-legal : (M : Matter) (v : Word) → MatterWord M v → (w : WordValue) → Carries w v → legalWord M w ≡ true
+unfolding legalWord
+value-legal M v h w c =
+    and-both {b = leb (w .len) (M .longest)} (rw (c .len) (le-leb (length v) (M .longest) (h .short)))
+    (rw (c .symbols) (all-of (legalSymbol (M .labels) (M .language)) v (λ s m. legal-symbol M s ∙ listed-language M s (h .over s m))))
+
+-- every word of at most 31 symbols has a value
+pub value-carries : (v : Word) → length v ≤ 31 → Carries (wordOf v) v × (length (wordOf v .symbols) ≡ 31)
+value-carries v h = (record { len = refl; symbols = take-append-seam v (replicate (31 - length v) 0) }, omega (arith, length-append v (replicate (31 - length v) 0), length-replicate {A = ℕ} (31 - length v) 0))
+
+pair-test : (n : ℕ) (p : Pair) → IsPair n p → isPair n (p .first) (p .second) ≡ true
+unfolding isPair
+pair-test n p h = rw (lt-ltb (p .first) n (h .first), lt-ltb (p .second) n (h .second), ne-eqb (p .first) (p .second) (h .different))
+
+-- a table's byte by its place
+getD-up : (g : ℕ → ℕ) (a k i : ℕ) → i < k → getD (map g (upFrom a k)) i 0 ≡ g (a + i)
+unfolding upFrom
+getD-up g a zero i h = absurd (omega arith)
+getD-up g a (suc k) zero h = let z : a ≡ a + 0 = omega arith in ap g z
+getD-up g a (suc k) (suc i) h = let z : suc a + i ≡ a + suc i = omega arith in getD-up g (suc a) k i (omega arith) ∙ ap g z
+
+length-up : (a k : ℕ) → length (upFrom a k) ≡ k
+unfolding upFrom
+length-up a zero = refl
+length-up a (suc k) = ap suc (length-up (suc a) k)
+
+table-length : (M : Matter) → length (tableOf M) ≡ 1024
+unfolding tableOf range
+table-length M = length-map _ (upFrom 0 1024) ∙ length-up 0 1024
+
+table-at : (M : Matter) (a b : ℕ) → a < 32 → b < 32 → getD (tableOf M) (32 * a + b) 0 ≡ oneIf (isPair (M .parties) a b && permitsPair M (listOf M) (pair a b))
+unfolding tableOf range
+table-at M a b p q =
+    let g : ℕ → ℕ = λ k. oneIf (isPair (M .parties) (k / 32) (k % 32) && permitsPair M (listOf M) (pair (k / 32) (k % 32))) in
+    let d : (0 + (32 * a + b)) / 32 ≡ a = omega arith in
+    let m : (0 + (32 * a + b)) % 32 ≡ b = omega arith in
+    getD-up g 0 1024 (32 * a + b) (omega arith) ∙ rw (d, m)
+
+-- the list's length: at most 992 terms of at most 993 words of at most 31 symbols
+sum-bound : {A : Type 0} (g : A → ℕ) (c : ℕ) (l : List A) → ((x : A) → List·Memᴰ x l → g x ≤ c) → sumOf g l ≤ length l * c
+unfolding sumOf
+sum-bound g c [] h = omega arith
+sum-bound g c (x ∷ l) h = omega (arith, h x (List·Memᴰ·head refl), sum-bound g c l (λ y m. h y (List·Memᴰ·tail m)), suc-mul (length l) c)
+
+term-size : (t : List Word) → length t ≤ 993 → ((w : Word) → List·Memᴰ w t → length w ≤ 31) → length (encodeTerm t) ≤ 31778
+unfolding encodeTerm encodeCount encodeWord
+term-size t n h = omega (arith, length-append (encodeCount (length t)) (flatMap encodeWord t), length-flat encodeWord t, sum-bound (λ w. length (encodeWord w)) 32 t (λ w m. omega (arith, h w m)))
+
+list-size : (l : List (List Word)) → length l ≤ 992 → ((t : List Word) → List·Memᴰ t l → length (encodeTerm t) ≤ 31778) → length (encodeList l) ≤ 2 + 992 * 31778
+unfolding encodeList encodeCount
+list-size l n h = omega (arith, length-append (encodeCount (length l)) (flatMap encodeTerm l), length-flat encodeTerm l, sum-bound (λ t. length (encodeTerm t)) 31778 l h)
+
+pub bytes-bound : (M : Matter) → Limits M → length (bytesOf M) ≤ 2 + 992 * 31778
+unfolding bytesOf listOf
+bytes-bound M k =
+    list-size (plainList (minedList M)) (omega (arith, length-map plainTerm (minedList M), mined-terms-few M (k .parties .1)))
+    (λ t m. let s = map-out plainTerm (minedList M) m in
+    rw (s .2) (term-size (plainTerm (s .0)) (omega (arith, length-map (λ i. i .word) (s .0), mined-items-few M (k .parties .1) (s .0) (s .1)))
+    (λ w n. let i = map-out (λ i. i .word) (s .0) n in rw (i .2) (omega (arith, mined-words M (s .0) (s .1) (i .0) (i .1) .short, k .longest .1)))))
+
+-- only an accepted file is convertible
+pub convertible-accepted : (f : List ℕ) (k : ℕ) → verdictCall f ≡ reply.Convertible k → checkOf f ≡ Accepted
+unfolding verdictCall
+convertible-accepted f k v = by-check (checkOf f) (λ e. e) (λ x e. clash (cc (rw e at v)))
+
+-- Demand 3, for every accepted file
+module _ (f : List ℕ) (e : checkOf f ≡ Accepted) where
+  call-in : verdictCall f ≡ replyOf (length (bytesOf (matterOf f))) (verdictOf (matterOf f))
+  unfolding verdictCall verdictIn
+  call-in = rw e
+
+  -- the verdict behind the reply
+  pub convertible-verdict : (k : ℕ) → verdictCall f ≡ reply.Convertible k → (verdictOf (matterOf f) ≡ convertible) × (length (bytesOf (matterOf f)) ≡ k)
+  convertible-verdict k v = reply-convertible (length (bytesOf (matterOf f))) k (verdictOf (matterOf f)) (sym call-in ∙ v)
+
+  small : {p : Pair} → IsPair (matterOf f .parties) p → (p .first < 32) × (p .second < 32)
+  small {p} h = let n = accepted-limits f e .parties .1 in (omega (arith, h .first), omega (arith, h .second))
+
+  -- an accepted file is never refused a verdict
+  reply-given : (size : ℕ) (v : Verdict Pair) (x : Refusal) → replyOf size v ≡ reply.Refused x → ⊥
+  reply-given size convertible x q = clash (cc q)
+  reply-given size (noWord p) x q = clash (cc q)
+  reply-given size (rivalled p r) x q = clash (cc q)
+
+  pub verdict-given : (x : Refusal) → verdictCall f ≡ reply.Refused x → ⊥
+  verdict-given x q = reply-given (length (bytesOf (matterOf f))) (verdictOf (matterOf f)) x (sym call-in ∙ q)
+
+  -- convertible exactly where a rule list exists
+  pub verdict-exact : ((k : ℕ) × (verdictCall f ≡ reply.Convertible k)) ↔ ((r : List (List Word)) × Converts (matterOf f) r)
+  verdict-exact = (
+    λ x. convertible-iff (matterOf f) refl .0 (convertible-verdict (x .0) (x .1) .0),
+    λ x. (length (bytesOf (matterOf f)), call-in ∙ rw (convertible-iff (matterOf f) refl .1 x)),
+  )
+
+  -- the path call for a pair and a word of the matter, with output enough
+  path-call : (p : Pair) → IsPair (matterOf f .parties) p → (v : Word) → MatterWord (matterOf f) v → (w : WordValue) → Carries w v → (size : ℕ) → w .len + 1 ≤ size → pathCall f (p .first) (p .second) w size ≡ found (leastPath (enlarged (matterOf f)) p v)
+  unfolding pathCall
+  path-call p h v m w c size k =
+      rw e (path-answer (matterOf f) (p .first) (p .second) w size (pair-test (matterOf f .parties) p h) (value-legal (matterOf f) v m w c) (λ z. absurd (omega (arith, c .len, m .some))) k ∙ rw (c .symbols))
+
+  path-shown : (p : Pair) → IsPair (matterOf f .parties) p → (v : Word) → HasWord (matterOf f) p v → (w : WordValue) → Carries w v → (output : List ℕ) → w .len + 1 ≤ length output → ShowsPath f p w output
+  path-shown p h v m w c output k =
+      by-found (leastPath (enlarged (matterOf f)) p v)
+      (λ n. both (has-in (enlarged (matterOf f)) p v (m .1 .0) (m .1 .1)) (least-none (enlarged (matterOf f)) p v .0 n))
+      (λ l n.
+      let r = least-is-path (enlarged (matterOf f)) p v n in
+      let z : l ≡ p .first ∷ r .0 = r .1 in
+      let a : pathCall f (p .first) (p .second) w (length output) ≡ writes (p .first ∷ r .0) = path-call p h v (m .0) w c (length output) k ∙ ap found n ∙ ap writes z in
+      let s : length (p .first ∷ r .0) ≡ w .len + 1 = ap length (sym z) ∙ least-size (enlarged (matterOf f)) p v n ∙ omega (arith, c .len) in
+      record {
+        via = r .0;
+        path = rw (c .symbols) (r .2);
+        least = λ other o. subst (λ (y : List ℕ). (y ≡ p .first ∷ other) ⊎ (lexLess y (p .first ∷ other) ≡ true)) z (least-is-least (enlarged (matterOf f)) p v n other (rw (c .symbols) at o));
+        answer = a;
+        reply = rw a (ap WrotePath s);
+        written = rw a (ap (λ (i : ℕ). (p .first ∷ r .0) ++ drop i output) s);
+      })
+
+  -- not convertible, no word: the first permitted pair that has no word or has a rival; it has none, and the path call says so for every word
+  pub no-word-exact : (x : PairValue) → verdictCall f ≡ reply.NoWord x → FirstPair (matterOf f) (Hinders (matterOf f)) (pairIn x) × Wordless (matterOf f) (pairIn x)
+  no-word-exact x v = no-word-first (matterOf f) (pairIn x) (reply-no-word (length (bytesOf (matterOf f))) x (verdictOf (matterOf f)) (sym call-in ∙ v))
+
+  pub no-word-nothing : (x : PairValue) → verdictCall f ≡ reply.NoWord x → (v : Word) → MatterWord (matterOf f) v → (w : WordValue) → Carries w v → (size : ℕ) → w .len + 1 ≤ size → pathCall f (x .first) (x .second) w size ≡ nothing
+  no-word-nothing x t v m w c size k =
+      let r = no-word-exact x t in
+      let n : has (enlarged (matterOf f)) (pairIn x) v ≡ false = by-test (has (enlarged (matterOf f)) (pairIn x) v) (λ h. absurd (r .1 v (m, has-out (enlarged (matterOf f)) (pairIn x) v h))) (λ h. h) in
+      path-call (pairIn x) (r .0 .isPair) v m w c size k ∙ rw (least-none (enlarged (matterOf f)) (pairIn x) v .1 n)
+
+  -- not convertible, a rival: the same pair, its first rival, and at every word of the pair the path call shows a path for both
+  pub rival-exact : (x y : PairValue) → verdictCall f ≡ reply.Rival x y → FirstPair (matterOf f) (Hinders (matterOf f)) (pairIn x) × FirstPair (matterOf f) (IsRival (matterOf f) (pairIn x)) (pairIn y)
+  rival-exact x y v = rival-first (matterOf f) (pairIn x) (pairIn y) (reply-rival (length (bytesOf (matterOf f))) x y (verdictOf (matterOf f)) (sym call-in ∙ v))
+
+  pub rival-shown : (x y : PairValue) → verdictCall f ≡ reply.Rival x y → (v : Word) → List·Memᴰ v (pairWords (matterOf f) (pairIn x)) → (w : WordValue) → Carries w v → (output : List ℕ) → w .len + 1 ≤ length output → ShowsPath f (pairIn x) w output × ShowsPath f (pairIn y) w output
+  rival-shown x y t v m w c output k =
+      let r = rival-exact x y t in
+      let h = word-out (matterOf f) (pairIn x) v m in
+      (path-shown (pairIn x) (r .0 .isPair) v h w c output k, path-shown (pairIn y) (r .1 .isPair) v (r .1 .here .all v h) w c output k)
+
+  permits-back : (a b : ℕ) → verdictOf (matterOf f) ≡ convertible → isPair (matterOf f .parties) a b ≡ true → permitReply f (bytesOf (matterOf f)) a b ≡ yesOrNo (permitted (matterOf f) (pair a b))
+  unfolding bytesOf listOf
+  permits-back a b v p = permit-of-mined f e refl v a b p
+
+  table-back : (a b : ℕ) → a < 32 → b < 32 → verdictOf (matterOf f) ≡ convertible → getD (tableOf (matterOf f)) (32 * a + b) 0 ≡ oneIf (isPair (matterOf f .parties) a b && permitted (matterOf f) (pair a b))
+  unfolding listOf
+  table-back a b p q v =
+      table-at (matterOf f) a b p q
+      ∙ by-test (isPair (matterOf f .parties) a b)
+      (λ t. rw (t, mined-converts (matterOf f) refl v .exact (pair a b) (listed (matterOf f) (pair a b) (pair-of (matterOf f .parties) a b t))))
+      (λ t. rw t)
+
+  -- convertible: mining with scratch and output enough writes the list of that length, and permit on it and scratch give back the permit table
+  pub mining-exact : (k : ℕ) → verdictCall f ≡ reply.Convertible k → (scratch output : List ℕ) → 1024 ≤ length scratch → k ≤ length output → MinesList f k scratch output
+  unfolding miningCall miningIn
+  mining-exact k v scratch output s o =
+      let r = convertible-verdict k v in
+      let z : length (bytesOf (matterOf f)) ≡ k = r .1 in
+      let a : miningCall f (length scratch) (length output) ≡ writesList (tableOf (matterOf f)) (bytesOf (matterOf f)) = rw (e, le-leb 1024 (length scratch) s, r .0, le-leb (length (bytesOf (matterOf f))) (length output) (omega arith)) in
+      record {
+        answer = a;
+        reply = rw a (ap Wrote z);
+        size = z;
+        written = rw a (ap (λ (i : ℕ). bytesOf (matterOf f) ++ drop i output) z);
+        permits = λ i j p. permits-back i j (r .0) p;
+        table = λ i j p q. rw a (List·getD-append (tableOf (matterOf f)) (drop 1024 scratch) 0 (32 * i + j) (omega (arith, table-length (matterOf f))) ∙ table-back i j p q (r .0));
+      }
+
+  -- the numbers in a reply: a length that an output can have, and parties below 32
+  pub length-bound : (k : ℕ) → verdictCall f ≡ reply.Convertible k → k ≤ 2 + 992 * 31778
+  length-bound k v = rw (← convertible-verdict k v .1) (bytes-bound (matterOf f) (accepted-limits f e))
+
+  pub no-word-parties : (x : PairValue) → verdictCall f ≡ reply.NoWord x → (x .first < 32) × (x .second < 32)
+  no-word-parties x v = small (no-word-exact x v .0 .isPair)
+
+  pub rival-parties : (x y : PairValue) → verdictCall f ≡ reply.Rival x y → ((x .first < 32) × (x .second < 32)) × ((y .first < 32) × (y .second < 32))
+  rival-parties x y v = let r = rival-exact x y v in (small (r .0 .isPair), small (r .1 .isPair))
+
+  -- an output that is too short for the list
+  pub mining-short : (k : ℕ) → verdictCall f ≡ reply.Convertible k → (scratch output : ℕ) → 1024 ≤ scratch → output < k → miningCall f scratch output ≡ tooShort
+  unfolding miningCall miningIn
+  mining-short k v scratch output s o =
+      let r = convertible-verdict k v in
+      let z : length (bytesOf (matterOf f)) ≡ k = r .1 in
+      rw (e, le-leb 1024 scratch s, r .0, lt-leb (length (bytesOf (matterOf f))) output (omega arith))

@@ -1,0 +1,78 @@
+-- What demand 3 says of the calls' replies, in 01's words: words by their paths, pairs by pair order.
+use Prim.Native.Nat.{ℕ, _+_, _*_, _<_}
+use mathlib.Core.Path.{_≡_}
+use mathlib.Core.Logic.{_⊎_}
+use mathlib.Core.Bool.{true, false, _&&_}
+use mathlib.Core.List.{List, _∷_, _++_}
+use lib.ListN.{length, drop, getD}
+use Rattle.rebac.specs.Matter.{Matter, Pair, pair, IsPair, pairBefore, permitted}
+use Rattle.rebac.specs.Words.{Word, lexLess}
+use Rattle.rebac.specs.Paths.{Path, HasPath}
+use Rattle.rebac.specs.Symbols.{enlarged}
+use Rattle.rebac.specs.Existence.{MatterWord}
+use Rattle.graph.specs.Archive.{matterOf}
+use Rattle.graph.specs.Legal.{isPair}
+use Rattle.paths.specs.Word.{symbolsIn}
+use Rattle.paths.specs.Calls.{pathCall, writes, replyOf, outputOf}
+use Rattle.paths.specs.declared.word.Word.{Word as WordValue}
+use Rattle.paths.specs.declared.call.Reply.the-variants.{Wrote as WrotePath}
+use Rattle.rules.specs.Permit.{permitReply, yesOrNo}
+use Rattle.mining.specs.declared.build.Pair.{Pair as PairValue}
+use Rattle.conversion.specs.Calls.{bytesOf, tableOf, oneIf, miningCall, writes as writesList, minedReply, scratchOf, outputOf as listOutput}
+use Rattle.conversion.specs.declared.mine.MiningReply.the-variants.{Wrote}
+
+-- the pair that a reply names
+abbrev pub pairIn : PairValue → Pair
+pairIn p = pair (p .first) (p .second)
+
+-- "A pair has a word when some path from its first to its second party has that word, of length at most D"
+abbrev pub HasWord : Matter → Pair → Word → Type 0
+HasWord M p w = MatterWord M w × HasPath (enlarged M) p w
+
+abbrev pub Wordless : Matter → Pair → Type 0
+Wordless M p = (w : Word) → HasWord M p w → ⊥
+
+-- "A rival of a pair with words is an unpermitted pair that has all of them."
+pub record IsRival (M : Matter) (p q : Pair) : Type 0 where
+  pub words : (w : Word) × HasWord M p w
+  pub isPair : IsPair (M .parties) q
+  pub unpermitted : permitted M q ≡ false
+  pub all : (w : Word) → HasWord M p w → HasWord M q w
+
+-- a "permitted pair .. that has no word or has a rival"
+pub record Hinders (M : Matter) (p : Pair) : Type 0 where
+  pub permit : permitted M p ≡ true
+  pub why : Wordless M p ⊎ ((q : Pair) × IsRival M p q)
+
+-- the first pair "in pair order" with a property
+pub record FirstPair (M : Matter) (A : Pair → Type 0) (p : Pair) : Type 0 where
+  pub isPair : IsPair (M .parties) p
+  pub here : A p
+  pub first : (x : Pair) → IsPair (M .parties) x → A x → (p ≡ x) ⊎ (pairBefore p x ≡ true)
+
+-- a word value of these symbols
+pub record Carries (w : WordValue) (v : Word) : Type 0 where
+  pub len : w .len ≡ length v
+  pub symbols : symbolsIn w ≡ v
+
+-- Path: "It shows a path when it writes that one, from the given pair's first party to its second with the given word, and returns that number, the word's length plus one."
+pub record ShowsPath (f : List ℕ) (p : Pair) (w : WordValue) (output : List ℕ) : Type 0 where
+  -- the parties after the first
+  pub via : List ℕ
+  pub path : Path (enlarged (matterOf f)) p (symbolsIn w) via
+  -- "of several paths, the one with the lower party at the first difference"
+  pub least : (other : List ℕ) → Path (enlarged (matterOf f)) p (symbolsIn w) other → (p .first ∷ via ≡ p .first ∷ other) ⊎ (lexLess (p .first ∷ via) (p .first ∷ other) ≡ true)
+  pub answer : pathCall f (p .first) (p .second) w (length output) ≡ writes (p .first ∷ via)
+  pub reply : replyOf (pathCall f (p .first) (p .second) w (length output)) ≡ WrotePath (w .len + 1)
+  pub written : outputOf (pathCall f (p .first) (p .second) w (length output)) output ≡ (p .first ∷ via) ++ drop (w .len + 1) output
+
+-- mining for a convertible file whose verdict gives the length k, lent scratch and output that are long enough
+pub record MinesList (f : List ℕ) (k : ℕ) (scratch output : List ℕ) : Type 0 where
+  pub answer : miningCall f (length scratch) (length output) ≡ writesList (tableOf (matterOf f)) (bytesOf (matterOf f))
+  pub reply : minedReply (miningCall f (length scratch) (length output)) ≡ Wrote k
+  pub size : length (bytesOf (matterOf f)) ≡ k
+  pub written : listOutput (miningCall f (length scratch) (length output)) output ≡ bytesOf (matterOf f) ++ drop k output
+  -- permit on the list gives back the permit table
+  pub permits : (a b : ℕ) → isPair (matterOf f .parties) a b ≡ true → permitReply f (bytesOf (matterOf f)) a b ≡ yesOrNo (permitted (matterOf f) (pair a b))
+  -- and so does scratch
+  pub table : (a b : ℕ) → a < 32 → b < 32 → getD (scratchOf (miningCall f (length scratch) (length output)) scratch) (32 * a + b) 0 ≡ oneIf (isPair (matterOf f .parties) a b && permitted (matterOf f) (pair a b))

@@ -1,0 +1,11 @@
+-- The lines of 01's cases follow from the definition, by computation.
+use mathlib.Core.Path.{_≡_, refl}
+use mathlib.Core.List.{List, map}
+use Prim.Native.Nat.{ℕ}
+use Rattle.conversion.specs.declared.verdict.VerdictReply.{VerdictReply}
+use Rattle.report.specs.Report.{digitsIn, decimalText, pairText, refusedLine, verdictLine}
+use Rattle.report.specs.CaseLines.{caseLines}
+
+pub case-lines-hold : map (λ c. verdictLine (c .0)) caseLines ≡ map (λ c. c .1) caseLines
+unfolding digitsIn decimalText pairText refusedLine verdictLine
+case-lines-hold = refl

@@ -1,0 +1,90 @@
+-- What is printed fits: a verdict's line has at most 64 bytes, what is written is inside its slice, and standard input that is cut is refused. Assumes nothing.
+use mathlib.Core.Path.{_≡_, refl, sym, ap, _∙_}
+use mathlib.Core.List.{List, []}
+use Prim.Native.Nat.{ℕ, _+_, _≤_, _<_}
+use native.Mathlib.Omega.{arith}
+use lib.Dec.{leb}
+use lib.ListN.{length, take, drop, length-append}
+use lib.Seq.{length-take-le, take-append-seam}
+use borrow.Author.Tests.{leb-true, leb-false}
+use Rattle.lists.proofs.Cases.{by-test}
+use Rattle.rebac.specs.Verdict.{convertible}
+use Rattle.rebac.specs.Existence.{verdictOf}
+use Rattle.house_file.specs.Check.{numberOf, checkOf}
+use Rattle.house_file.specs.declared.reply.Check.the-variants as check
+use Rattle.house_file.specs.declared.reply.Refusal.{Refusal}
+use Rattle.house_file.proofs.WellFormedLaws.{framing}
+use Rattle.graph.specs.Archive.{matterOf}
+use Rattle.rules.specs.Reading.{IsList}
+use Rattle.rules.specs.Text.{listText}
+use Rattle.rules.specs.Writing.{put}
+use Rattle.rules.proofs.PutLaws.{put-nil}
+use Rattle.rules.proofs.MatterLists.{mined-is-list}
+use Rattle.mining.specs.declared.build.Pair.{Pair}
+use Rattle.conversion.specs.Calls.{listOf, bytesOf, verdictCall, miningCall, minedReply, outputOf}
+use Rattle.conversion.specs.declared.mine.MiningReply.{MiningReply}
+use Rattle.conversion.specs.declared.mine.MiningReply.the-variants.{Refused as RefusedMining, Wrote as WroteList}
+use Rattle.conversion.specs.declared.verdict.VerdictReply.{VerdictReply}
+use Rattle.conversion.specs.declared.verdict.VerdictReply.the-variants.{Refused, Convertible, NoWord, Rival}
+use Rattle.conversion.proofs.RefusalNumbers.{number-small}
+use Rattle.conversion.proofs.Demand3.{by-check, convertible-accepted, convertible-verdict, mining-exact, mining-short, length-bound, no-word-parties, rival-parties}
+use Rattle.report.specs.Report.{Wrote, Inside, decimalText, pairText, refusedLine, verdictLine, listPart}
+use Rattle.report.proofs.LineLaws.{decimal-length, pair-length, refused-length, convertible-length, no-word-length, rival-length}
+
+two-digits : (n : ℕ) → n < 32 → length (decimalText n) ≤ 2
+two-digits n h = decimal-length 1 n (omega arith)
+
+pair-fits : (p : Pair) → (p .first < 32) × (p .second < 32) → length (pairText p) ≤ 5
+pair-fits p h = omega (arith, pair-length p, two-digits (p .first) (h .0), two-digits (p .second) (h .1))
+
+pub refused-fits : (x : Refusal) → length (refusedLine x) ≤ 11
+refused-fits x = omega (arith, refused-length x, two-digits (numberOf x) (omega (arith, number-small x)))
+
+accepted-fits : (f : List ℕ) → checkOf f ≡ check.Accepted → (v : VerdictReply) → verdictCall f ≡ v → length (verdictLine v) ≤ 64
+unfolding verdictLine
+accepted-fits f e (Refused x) v = omega (arith, refused-fits x)
+accepted-fits f e (Convertible k) v = omega (arith, convertible-length k, decimal-length 7 k (omega (arith, length-bound f e k v)))
+accepted-fits f e (NoWord p) v = omega (arith, no-word-length p, pair-fits p (no-word-parties f e p v))
+accepted-fits f e (Rival p q) v = let r = rival-parties f e p q v in omega (arith, rival-length p q, pair-fits p (r .0), pair-fits q (r .1))
+
+pub line-fits : (f : List ℕ) → length (verdictLine (verdictCall f)) ≤ 64
+unfolding verdictCall verdictLine
+line-fits f = by-check (checkOf f) (λ e. accepted-fits f e (verdictCall f) refl) (λ x e. rw e (omega (arith, refused-fits x)))
+
+-- "more is cut and so has no legal length"
+pub cut-refused : (input : List ℕ) → 35785 ≤ length input → checkOf (take 35785 input) ≡ check.Accepted → ⊥
+cut-refused input h e =
+    let g = framing (take 35785 input) e in
+    omega (arith, length-take-le 35785 input h, g .size, g .fields .parties .1, g .fields .records)
+
+-- what was written from the first byte on is counted inside the slice
+pub wrote-inside : {old x new : List ℕ} {end : ℕ} → Wrote old 0 x new end → Inside end new
+unfolding put
+wrote-inside {old} {x} {new} {end} w =
+    let n : length new ≡ length x + length (drop (0 + length x) old) = ap length (w .bytes) ∙ length-append x (drop (0 + length x) old) in
+    let l : end ≤ length new = omega (arith, w .place) in
+    (l, sym (length-take-le end new l))
+
+pub wrote-nothing : (b : List ℕ) → Wrote b 0 [] b 0
+wrote-nothing b = record { bytes = sym (put-nil b 0); place = omega arith }
+
+bytes-list : (f : List ℕ) → checkOf f ≡ check.Accepted → verdictOf (matterOf f) ≡ convertible → IsList (bytesOf (matterOf f)) (listOf (matterOf f))
+unfolding bytesOf listOf
+bytes-list f e v = mined-is-list f e refl v
+
+-- what mining answers for a convertible file, lent 1,024 bytes of scratch and 65,536 of output: the list, or that it is too long
+abbrev pub MinedAs : List ℕ → ℕ → List ℕ → MiningReply → Type 0
+MinedAs f k list (WroteList j) = (j ≤ 65536) × ((j ≤ length list) × (IsList (take j list) (listOf (matterOf f)) × (listPart (matterOf f) (Convertible k) ≡ listText (listOf (matterOf f)))))
+MinedAs f k list (RefusedMining x) = listPart (matterOf f) (Convertible k) ≡ refusedLine x
+
+pub mined-as : (f : List ℕ) (k : ℕ) → verdictCall f ≡ Convertible k → (scratch old : List ℕ) → length scratch ≡ 1024 → length old ≡ 65536 → MinedAs f k (outputOf (miningCall f (length scratch) (length old)) old) (minedReply (miningCall f (length scratch) (length old)))
+mined-as f k v scratch old s o =
+    let e = convertible-accepted f k v in
+    by-test (leb k 65536)
+    (λ t.
+    let l : k ≤ 65536 = leb-true k 65536 t in
+    let m = mining-exact f e k v scratch old (omega arith) (omega arith) in
+    rw (m .answer) (omega (arith, m .size), (omega (arith, length-append (bytesOf (matterOf f)) (drop (length (bytesOf (matterOf f))) old)), (rw (take-append-seam (bytesOf (matterOf f)) (drop (length (bytesOf (matterOf f))) old)) (bytes-list f e (convertible-verdict f e k v .0)), rw t))))
+    (λ t.
+    let l : 65536 < k = leb-false k 65536 t in
+    rw (mining-short f e k v (length scratch) (length old) (omega arith) (omega arith), t))
