@@ -1,8 +1,6 @@
 -- The lines of 01's cases follow from the definition, by computation.
 use mathlib.Core.Path.{_≡_, refl}
-use mathlib.Core.List.{List, map}
-use Prim.Native.Nat.{ℕ}
-use Rattle.conversion.specs.declared.verdict.VerdictReply.{VerdictReply}
+use mathlib.Core.List.{map}
 use Rattle.report.specs.Report.{digitsIn, decimalText, pairText, refusedLine, verdictLine}
 use Rattle.report.specs.CaseLines.{caseLines}
 
