@@ -11,12 +11,11 @@ use Rattle.rebac.specs.Paths.{leastPath}
 use Rattle.rebac.specs.Symbols.{enlarged}
 use Rattle.rebac.specs.NextWord.{nextWord}
 use Rattle.house_file.specs.Check.{checkOf}
-use Rattle.house_file.specs.declared.reply.Check.{Check}
-use Rattle.house_file.specs.declared.reply.Check.the-variants as check
 use Rattle.house_file.specs.declared.reply.Refusal.{Refusal}
 use Rattle.house_file.specs.declared.reply.Refusal.the-variants.{PartyPair, GivenWord, Output}
 use Rattle.graph.specs.Archive.{matterOf}
 use Rattle.graph.specs.Legal.{isPair, legalSymbol}
+use Rattle.graph.specs.Refusals.{unless, afterCheck}
 use Rattle.paths.specs.Word.{symbolsIn}
 use Rattle.paths.specs.declared.word.Word.{Word}
 use Rattle.paths.specs.declared.call.Reply.{Reply}
@@ -40,10 +39,6 @@ outputOf (refuses x) old = old
 outputOf nothing old = old
 outputOf (writes l) old = l ++ drop (length l) old
 
-abbrev pub unless : Bool → Refusal → Answer → Answer
-unless true x k = k
-unless false x k = refuses x
-
 abbrev pub found : Option (List ℕ) → Answer
 found none = nothing
 found (some l) = writes l
@@ -55,26 +50,21 @@ legalWord M w = leb (w .len) (M .longest) && allOf (legalSymbol (M .labels) (M .
 -- Path: 10, 11 (also the empty word), 14 by the word's length, then the path with the lower party at the first difference
 unfoldable pub pathIn : Matter → ℕ → ℕ → Word → ℕ → Answer
 pathIn M a b w size =
-    unless (isPair (M .parties) a b) PartyPair
-    (unless (legalWord M w && not (eqb (w .len) 0)) GivenWord
-    (unless (leb (w .len + 1) size) Output
+    unless refuses (isPair (M .parties) a b) PartyPair
+    (unless refuses (legalWord M w && not (eqb (w .len) 0)) GivenWord
+    (unless refuses (leb (w .len + 1) size) Output
     (found (leastPath (enlarged M) (pair a b) (symbolsIn w)))))
 
 -- Next-word: 10, 11, 14 below 31 bytes, then the pair's first word after the given one
 unfoldable pub nextIn : Matter → ℕ → ℕ → Word → ℕ → Answer
 nextIn M a b w size =
-    unless (isPair (M .parties) a b) PartyPair
-    (unless (legalWord M w) GivenWord
-    (unless (leb 31 size) Output
+    unless refuses (isPair (M .parties) a b) PartyPair
+    (unless refuses (legalWord M w) GivenWord
+    (unless refuses (leb 31 size) Output
     (found (nextWord M (pair a b) (symbolsIn w)))))
 
--- the file's refusals come first
-abbrev pub afterCheck : Check → Answer → Answer
-afterCheck check.Accepted k = k
-afterCheck (check.Refused x) k = refuses x
-
 unfoldable pub pathCall : List ℕ → ℕ → ℕ → Word → ℕ → Answer
-pathCall f a b w size = afterCheck (checkOf f) (pathIn (matterOf f) a b w size)
+pathCall f a b w size = afterCheck refuses (checkOf f) (pathIn (matterOf f) a b w size)
 
 unfoldable pub nextCall : List ℕ → ℕ → ℕ → Word → ℕ → Answer
-nextCall f a b w size = afterCheck (checkOf f) (nextIn (matterOf f) a b w size)
+nextCall f a b w size = afterCheck refuses (checkOf f) (nextIn (matterOf f) a b w size)

@@ -9,12 +9,10 @@ use Rattle.rebac.specs.Matter.{Matter, Pair, pair}
 use Rattle.rebac.specs.Paths.{has}
 use Rattle.rebac.specs.Existence.{permitsPair}
 use Rattle.house_file.specs.Check.{checkOf}
-use Rattle.house_file.specs.declared.reply.Check.{Check}
-use Rattle.house_file.specs.declared.reply.Check.the-variants as check
-use Rattle.house_file.specs.declared.reply.Refusal.{Refusal}
 use Rattle.house_file.specs.declared.reply.Refusal.the-variants.{RuleList, PartyPair}
 use Rattle.graph.specs.Archive.{matterOf}
 use Rattle.graph.specs.Legal.{isPair}
+use Rattle.graph.specs.Refusals.{unless, afterCheck}
 use Rattle.paths.specs.Ask.{tableGraph}
 use Rattle.rules.specs.ListBytes.{decodeList}
 use Rattle.rules.specs.declared.call.PermitReply.{PermitReply}
@@ -29,21 +27,13 @@ abbrev pub answerBy : Matter → Pair → Option (List (List (List ℕ))) → Pe
 answerBy M p none = Refused RuleList
 answerBy M p (some l) = yesOrNo (permitsPair M l p)
 
-abbrev pub unless : Bool → Refusal → PermitReply → PermitReply
-unless true x k = k
-unless false x k = Refused x
-
 -- the answer for an accepted file: 10, then 9, then yes or no
 unfoldable pub permitIn : Matter → List ℕ → ℕ → ℕ → PermitReply
-permitIn M list a b = unless (isPair (M .parties) a b) PartyPair (answerBy M (pair a b) (decodeList (M .labels) (M .language) (M .longest) list))
-
-abbrev pub afterCheck : Check → PermitReply → PermitReply
-afterCheck check.Accepted k = k
-afterCheck (check.Refused x) k = Refused x
+permitIn M list a b = unless Refused (isPair (M .parties) a b) PartyPair (answerBy M (pair a b) (decodeList (M .labels) (M .language) (M .longest) list))
 
 -- 01: "Permit: for a rule list and a pair, yes or no." For any bytes; the file's refusals come first
 unfoldable pub permitReply : List ℕ → List ℕ → ℕ → ℕ → PermitReply
-permitReply file list a b = afterCheck (checkOf file) (permitIn (matterOf file) list a b)
+permitReply file list a b = afterCheck Refused (checkOf file) (permitIn (matterOf file) list a b)
 
 -- over the masks of a graph: the pair has all words of a term; it meets a term of the list
 unfoldable pub meetsTerm : ℕ → Table → ℕ → ℕ → List (List ℕ) → Bool
