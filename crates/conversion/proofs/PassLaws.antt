@@ -37,7 +37,7 @@ use Rattle.rules.proofs.RoundTrip.{count-size, term-size, word-size, terms-more
 use Rattle.rules.proofs.PutLaws.{put-put, put-before, put-length}
 use Rattle.mining.specs.Pairs.{pairAt, isPairAt, pairsFrom}
 use Rattle.mining.specs.Building.{problemIn, named, bytesOf, termBytes}
-use Rattle.mining.specs.Taking.{Marks, due, Ready, JudgedAs, TakenAs}
+use Rattle.mining.specs.Taking.{Marks, due, JudgedAs}
 use Rattle.mining.specs.declared.take.Taken.{Taken}
 use Rattle.mining.specs.declared.take.Judgment.the-variants.{Fit, Wordless, Rivalled}
 use Rattle.mining.specs.declared.build.Pair.{Pair as PairValue}
@@ -149,14 +149,14 @@ pass-start a few row h =
 
 module _ (a : Archive) (l : RuleList Word) (row : Row) (size k : ℕ) (h : k < 1024) (P : Passing a l row size k) where
   -- the pair is passed over
-  pub pass-over : due a l k ≡ false → (more : Row) → Marks a l more → Passing a l more size (k + 1)
+  pub pass-over : due a l k ≡ false → Passing a l row size (k + 1)
   unfolding due
-  pass-over e more m =
+  pass-over e =
       by-test (isPairAt (a .parties) k)
       (λ i.
       let f : (problemIn a .permitted (pairAt k) && not (permits (problemIn a) l (pairAt k))) ≡ false = rw i at e in
       record {
-        marks = m;
+        marks = P .marks;
         mined = sym (mine-pass (problemIn a) l (pairAt k) (pairsFrom (a .parties) (k + 1)) f) ∙ (rw (pairs-take (a .parties) k h i) at (P .mined));
         judged = sym (verdict-pass (problemIn a) l (pairAt k) (pairsFrom (a .parties) (k + 1)) f) ∙ (rw (pairs-take (a .parties) k h i) at (P .judged));
         sized = P .sized;
@@ -164,7 +164,7 @@ module _ (a : Archive) (l : RuleList Word) (row : Row) (size k : ℕ) (h : k < 1
         few = omega (arith, P .few);
       })
       (λ i. record {
-        marks = m;
+        marks = P .marks;
         mined = rw (pairs-skip (a .parties) k h i) at (P .mined);
         judged = rw (pairs-skip (a .parties) k h i) at (P .judged);
         sized = P .sized;
@@ -238,6 +238,6 @@ pass-size a l row size k P =
     omega (arith, P .sized, terms-grow (problemIn a) l (pairsFrom (a .parties) k), ap (λ (r : RuleList Word). length (termsOf r)) (P .mined), list-length (mine (problemIn a)))
 
 -- past the last pair
-pub pass-end : (a : Archive) (l : RuleList Word) (row : Row) (size : ℕ) → Passing a l row size 1024 → (l ≡ mine (problemIn a)) × (verdict (problemIn a) ≡ convertible)
+pub pass-end : (a : Archive) (l : RuleList Word) (row : Row) (size k : ℕ) → 32 * a .parties ≤ k → Passing a l row size k → (l ≡ mine (problemIn a)) × (verdict (problemIn a) ≡ convertible)
 unfolding mineFrom verdictFrom
-pass-end a l row size P = (rw (pairs-end (a .parties)) at (P .mined), sym (rw (pairs-end (a .parties)) at (P .judged)))
+pass-end a l row size k past P = (rw (pairs-end (a .parties) k past) at (P .mined), sym (rw (pairs-end (a .parties) k past) at (P .judged)))

@@ -1,14 +1,11 @@
 -- The terms' bytes one after another in the output, and the whole list once their number stands before them.
 use mathlib.Core.Path.{_≡_, refl, sym, ap, _∙_}
-use mathlib.Core.Bool.{Bool, true, false}
+use mathlib.Core.Bool.{true, false}
 use mathlib.Core.List.{List, [], _∷_, _++_}
-use Prim.Native.Nat.{ℕ, _+_, _≤_, _<_}
+use Prim.Native.Nat.{ℕ, _+_, _*_, _≤_, _<_}
 use native.Mathlib.Omega.{arith}
-use lib.Dec.{ltb}
 use lib.ListN.{length, drop, length-append}
-use borrow.Author.Tests.{lt-ltb, le-ltb}
 use Rattle.lists.specs.Lists.{flatMap}
-use Rattle.lists.proofs.Cases.{by-test}
 use Rattle.masks.specs.Table.{maskIn}
 use Rattle.masks.specs.declared.Row.{Row}
 use Rattle.rebac.specs.Matter.{Matter}
@@ -25,9 +22,8 @@ use Rattle.rules.proofs.RoundTrip.{count-size}
 use Rattle.rules.proofs.PutLaws.{put-nil, put-put, put-before, put-length}
 use Rattle.mining.specs.Pairs.{pairAt}
 use Rattle.mining.specs.Building.{problemIn, termBytes}
-use Rattle.mining.specs.Taking.{Marks, due, JudgedAs, TakenAs}
+use Rattle.mining.specs.Taking.{due, JudgedAs}
 use Rattle.mining.specs.declared.take.Taken.{Taken}
-use Rattle.mining.proofs.FirstLaws.{term-least}
 use Rattle.conversion.specs.Passes.{archiveBytes}
 use Rattle.conversion.proofs.TableLaws.{put-first}
 use Rattle.conversion.proofs.PassLaws.{Passing, termsOf, terms-add, list-bytes, list-length, pass-start, pass-over, pass-term, pass-room, pass-fit, pass-size, pass-end}
@@ -41,11 +37,6 @@ pub write-start : (a : Archive) → a .parties ≤ 32 → (row : Row) → ((v : 
 unfolding flatMap
 write-start a few row h old = record { pass = pass-start a few row h; bytes = sym (put-nil old 2); terms = refl }
 
--- the number of terms after a pair: one more where something was written
-abbrev pub counted : Bool → ℕ → ℕ
-counted true n = n + 1
-counted false n = n
-
 module _ (a : Archive) (old out : List ℕ) (room : length (archiveBytes a) ≤ length old) (l : RuleList Word) (row : Row) (number end k : ℕ) (W : Writing a old out l row number end k) where
   pub write-length : length out ≡ length old
   write-length = ap length (W .bytes) ∙ put-length old 2 (termsOf l) (omega (arith, W .pass .sized, pass-size a l row end k (W .pass), room))
@@ -55,43 +46,39 @@ module _ (a : Archive) (old out : List ℕ) (room : length (archiveBytes a) ≤ 
   write-two = omega (arith, list-length (mine (problemIn a)), room)
 
 module _ (M : Matter) (a : Archive) (s : Shows M a) (v : verdict (problemIn a) ≡ convertible) (old out : List ℕ) (room : length (archiveBytes a) ≤ length old) (l : RuleList Word) (row : Row) (number end k : ℕ) (h : k < 1024) (W : Writing a old out l row number end k) where
-  -- a pair taken: what was written stands after what stood there
-  module _ (new : List ℕ) (t : Taken) (T : TakenAs a l k end out new t) where
-    pub write-pass : due a l k ≡ false → Writing a old new l (t .marks) (counted (ltb end (t .end)) number) (t .end) (k + 1)
-    write-pass e =
-        let f = T .passed e in
-        let z : ltb end (t .end) ≡ false = le-ltb end (t .end) (omega (arith, f .1 .0)) in
-        rw (z, f .1 .0) (record { pass = pass-over a l row end k h (W .pass) e (t .marks) (f .1 .1 .1); bytes = f .1 .1 .0 ∙ W .bytes; terms = W .terms })
+  pub write-pass : due a l k ≡ false → Writing a old out l row number end (k + 1)
+  write-pass e = record { pass = pass-over a l row end k h (W .pass) e; bytes = W .bytes; terms = W .terms }
 
-    written : new ≡ put out end (termBytes a (pairAt k)) → new ≡ put old 2 (termsOf (l ++ (termOf (problemIn a) (pairAt k) ∷ [])))
+  -- a due pair: its term stands after the terms that stood there
+  module _ (e : due a l k ≡ true) (new : List ℕ) (t : Taken) (J : JudgedAs a l k end out new (judge (problemIn a) (pairAt k)) t) where
+    fitting : judge (problemIn a) (pairAt k) ≡ convertible
+    fitting = pass-fit a l row end k h (W .pass) e v
+
+    judged : JudgedAs a l k end out new convertible t
+    judged = rw fitting at J
+
+    written : new ≡ put old 2 (termsOf (l ++ (termOf (problemIn a) (pairAt k) ∷ [])))
     unfolding termBytes
-    written w =
-        w
+    written =
+        judged .1 .1 .0
         ∙ ap (λ (o : List ℕ). put o end (termBytes a (pairAt k))) (W .bytes)
         ∙ ap (λ (i : ℕ). put (put old 2 (termsOf l)) i (termBytes a (pairAt k))) (W .pass .sized)
         ∙ put-put old 2 (termsOf l) (termBytes a (pairAt k)) (write-two a old out room l row number end k W)
         ∙ ap (put old 2) (sym (terms-add l (termOf (problemIn a) (pairAt k))))
 
-    pub write-term : due a l k ≡ true → Writing a old new (l ++ (termOf (problemIn a) (pairAt k) ∷ [])) (t .marks) (counted (ltb end (t .end)) number) (t .end) (k + 1)
-    write-term e =
-        let j = pass-fit a l row end k h (W .pass) e v in
-        let f : JudgedAs a l k end out new convertible t = rw j at (T .judged e) in
-        let z : ltb end (t .end) ≡ true = lt-ltb end (t .end) (omega (arith, f .1 .0, term-least a (pairAt k))) in
-        rw (z, f .1 .0) (record {
-          pass = pass-term a l row end k h (W .pass) e M s j (t .marks) (f .1 .1 .1);
-          bytes = written (f .1 .1 .0);
+    pub write-term : Writing a old new (l ++ (termOf (problemIn a) (pairAt k) ∷ [])) (t .marks) (number + 1) (t .end) (k + 1)
+    write-term =
+        rw (judged .1 .0) (record {
+          pass = pass-term a l row end k h (W .pass) e M s fitting (t .marks) (judged .1 .1 .1);
+          bytes = written;
           terms = omega (arith, W .terms, length-append l (termOf (problemIn a) (pairAt k) ∷ []));
         })
 
-    -- either way the next pair follows
-    pub write-next : (m : RuleList Word) × Writing a old new m (t .marks) (counted (ltb end (t .end)) number) (t .end) (k + 1)
-    write-next = by-test (due a l k) (λ e. (l ++ (termOf (problemIn a) (pairAt k) ∷ []), write-term e)) (λ e. (l, write-pass e))
-
 -- past the last pair the number before the terms makes the list
-pub write-end : (a : Archive) (old out : List ℕ) (l : RuleList Word) (row : Row) (number end : ℕ) → length (archiveBytes a) ≤ length old → Writing a old out l row number end 1024 → put out 0 (encodeCount number) ≡ archiveBytes a ++ drop (length (archiveBytes a)) old
+pub write-end : (a : Archive) (old out : List ℕ) (l : RuleList Word) (row : Row) (number end k : ℕ) → 32 * a .parties ≤ k → length (archiveBytes a) ≤ length old → Writing a old out l row number end k → put out 0 (encodeCount number) ≡ archiveBytes a ++ drop (length (archiveBytes a)) old
 unfolding archiveBytes
-write-end a old out l row number end room W =
-    let e : l ≡ mine (problemIn a) = pass-end a l row end (W .pass) .0 in
+write-end a old out l row number end k past room W =
+    let e : l ≡ mine (problemIn a) = pass-end a l row end k past (W .pass) .0 in
     let c = count-size number in
     let q : archiveBytes a ≡ encodeCount number ++ termsOf l = ap (λ (r : RuleList Word). encodeList (plainList r)) (sym e) ∙ list-bytes l ∙ ap (λ (n : ℕ). encodeCount n ++ termsOf l) (sym (W .terms)) in
     let n : 0 + length (encodeCount number) ≡ 2 = omega (arith, c) in

@@ -33,11 +33,15 @@ fn write_list(a: Archive, out: &mut [u8]) -> Row
     let mut marks = masks::empty_row();
     let mut number: usize = 0;
     let mut end: usize = 2;
-    for k in 0..1024 {
-        let t = mining::take_pair(a, marks, k, out, end);
-        if end < t.end {
-            number += 1;
+    let n = a.parties;
+    let permits = a.permits;
+    let count = 32 * n;
+    for k in 0..count {
+        if !mining::is_due(n, permits, marks, k) {
+            continue;
         }
+        let t = mining::take_due(a, marks, k, out, end);
+        number += 1;
         end = t.end;
         marks = t.marks;
     }

@@ -26,8 +26,14 @@ pub fn judge(a: Archive) -> VerdictReply
     let mut term = [0u8; 31778];
     let mut marks = masks::empty_row();
     let mut size: usize = 2;
-    for k in 0..1024 {
-        let t = mining::take_pair(a, marks, k, &mut term, 0);
+    let n = a.parties;
+    let permits = a.permits;
+    let count = 32 * n;
+    for k in 0..count {
+        if !mining::is_due(n, permits, marks, k) {
+            continue;
+        }
+        let t = mining::take_due(a, marks, k, &mut term, 0);
         let judgment = t.judgment;
         match judgment {
             Judgment::Wordless => {

@@ -1,6 +1,6 @@
 -- An archive's conversion is its matter's, so a term of a pair's own words is met where a pair has the words, and its words fit.
 use mathlib.Core.Path.{_≡_, refl, sym, ap, _∙_}
-use mathlib.Core.Bool.{Bool, true, false, not, _&&_}
+use mathlib.Core.Bool.{Bool, true}
 use mathlib.Core.List.{List, List·Memᴰ}
 use Prim.Native.Nat.{ℕ, suc, _+_, _*_, _-_, _≤_, _<_}
 use native.Mathlib.Omega.{arith}
@@ -11,7 +11,7 @@ use Rattle.lists.proofs.ListLaws.{map-out}
 use Rattle.lists.proofs.OrderLaws.{length-map}
 use Rattle.masks.specs.Mask.{testBit}
 use Rattle.masks.specs.Table.{maskIn}
-use Rattle.rebac.specs.Matter.{Matter, Pair, pair, pairsOf, permitted}
+use Rattle.rebac.specs.Matter.{Matter, Pair, pairsOf, permitted}
 use Rattle.rebac.specs.Words.{Word}
 use Rattle.rebac.specs.Paths.{has, Graph}
 use Rattle.rebac.specs.Symbols.{enlarged}
@@ -26,7 +26,6 @@ use Rattle.rebac.proofs.MiningLaws.{Owned, term-length}
 use Rattle.rebac.proofs.Conversion.{score-one, pair-words-out, meets-one}
 use Rattle.graph.specs.declared.Archive.{Archive}
 use Rattle.graph.specs.Archive.{Shows}
-use Rattle.graph.specs.Legal.{isPair}
 use Rattle.paths.specs.Ask.{tableGraph}
 use Rattle.paths.specs.Next.{NextAs}
 use Rattle.paths.specs.declared.next.Next.{Next}
@@ -43,14 +42,6 @@ problem-pairs a = refl
 pub problem-permitted : (a : Archive) (p : Pair) → problemIn a .permitted p ≡ testBit (maskIn (a .permits) (p .first)) (p .second)
 unfolding problemIn problemOver
 problem-permitted a p = refl
-
--- the test of an unpermitted pair
-module _ (a : Archive) (u v : ℕ) where
-  pub unpermitted-yes : (r : Bool) → isPair (a .parties) u v ≡ true → r ≡ testBit (maskIn (a .permits) u) v → not r ≡ (isPair (a .parties) u v && not (problemIn a .permitted (pair u v)))
-  unpermitted-yes r e h = rw (e, problem-permitted a (pair u v)) (ap not h)
-
-  pub unpermitted-no : isPair (a .parties) u v ≡ false → false ≡ (isPair (a .parties) u v && not (problemIn a .permitted (pair u v)))
-  unpermitted-no e = rw e refl
 
 module _ (M : Matter) (a : Archive) (h : Shows M a) where
   pub problem-shown : problemIn a ≡ problemOf M

@@ -3,7 +3,7 @@ use mathlib.Core.Path.{_≡_, refl, sym, ap, _∙_}
 use mathlib.Core.Bool.{Bool, true, false, not, _&&_}
 use mathlib.Core.List.{List, [], _∷_, _++_, map, List·Memᴰ, List·Memᴰ·head}
 use mathlib.Core.Option.{Option, none, some}
-use Prim.Native.Nat.{ℕ, suc, _+_, _/_, _%_, _≤_, _<_}
+use Prim.Native.Nat.{ℕ, suc, _+_, _*_, _/_, _%_, _≤_, _<_}
 use native.Mathlib.Omega.{arith}
 use lib.ListN.{length, take, drop, length-append}
 use lib.Seq.{drop-at, length-take-le}
@@ -11,6 +11,8 @@ use Rattle.lists.specs.Lists.{allOf, firstBy, flatMap}
 use Rattle.lists.proofs.Cases.{by-test, and-left, and-right}
 use Rattle.lists.proofs.ListLaws.{find-in}
 use Rattle.lists.proofs.OrderLaws.{length-map}
+use Rattle.masks.specs.Mask.{testBit}
+use Rattle.masks.specs.Table.{maskIn}
 use Rattle.rebac.specs.Matter.{Matter, Pair, pair}
 use Rattle.rebac.specs.Words.{Word}
 use Rattle.rebac.specs.Paths.{has}
@@ -36,7 +38,7 @@ use Rattle.mining.specs.Pairs.{pairAt, isPairAt, pairsFrom}
 use Rattle.mining.specs.Building.{problemIn, named, bytesOf, firstBytes, termBytes, BuiltAs}
 use Rattle.mining.specs.declared.build.Built.the-variants.{NoWord, Rival, Term as TermTo}
 use Rattle.mining.proofs.GridLaws.{pairs-numbered, pairs-skip, pairs-take, pairs-end}
-use Rattle.mining.proofs.ArchiveLaws.{problem-pairs, owned-met, few-words, few-parties, owned-fits}
+use Rattle.mining.proofs.ArchiveLaws.{problem-pairs, problem-permitted, owned-met, few-words, few-parties, owned-fits}
 
 -- one pair q against the term so far
 module _ {P W : Type 0} (S : Problem P W) (p : P) (t : Term W) (q : P) (qs : List P) where
@@ -221,18 +223,18 @@ module _ (a : Archive) (p : Pair) (at : ℕ) (b : List ℕ) where
 
   -- the same by the tests that the loops make
   module _ (k number end : ℕ) (out : List ℕ) (h : k < 1024) (B : Building a p at b k number end out) where
-    pub extend-skip : (isPairAt (a .parties) k && not (problemIn a .permitted (pairAt k))) ≡ false → Building a p at b (k + 1) number end out
+    pub extend-skip : (isPairAt (a .parties) k && not (testBit (maskIn (a .permits) (k / 32)) (k % 32))) ≡ false → Building a p at b (k + 1) number end out
     extend-skip e =
         by-test (isPairAt (a .parties) k)
-        (λ i. build-unmet k number end out h B i (rw (rw i at e) refl))
+        (λ i. build-unmet k number end out h B i (rw (problem-permitted a (pairAt k), rw i at e) refl))
         (λ i. build-pass k number end out h B i)
 
-    module _ (M : Matter) (s : Shows M a) (e : (isPairAt (a .parties) k && not (problemIn a .permitted (pairAt k))) ≡ true) where
+    module _ (M : Matter) (s : Shows M a) (e : (isPairAt (a .parties) k && not (testBit (maskIn (a .permits) (k / 32)) (k % 32))) ≡ true) where
       its-pair : isPairAt (a .parties) k ≡ true
-      its-pair = and-left (isPairAt (a .parties) k) (not (problemIn a .permitted (pairAt k))) e
+      its-pair = and-left (isPairAt (a .parties) k) (not (testBit (maskIn (a .permits) (k / 32)) (k % 32))) e
 
       its-test : (not (problemIn a .permitted (pairAt k)) && meets (problemIn a) (pairAt k) (B .term)) ≡ allOf (has (tableGraph (a .parties) (a .graph)) (pairAt k)) (plainTerm (B .term))
-      its-test = rw (and-right (isPairAt (a .parties) k) (not (problemIn a .permitted (pairAt k))) e) (owned-met M a s p (pairAt k) (B .term) (B .owned))
+      its-test = rw (problem-permitted a (pairAt k), and-right (isPairAt (a .parties) k) (not (testBit (maskIn (a .permits) (k / 32)) (k % 32))) e) (owned-met M a s p (pairAt k) (B .term) (B .owned))
 
       pub extend-unmet : allOf (has (tableGraph (a .parties) (a .graph)) (pairAt k)) (plainTerm (B .term)) ≡ false → Building a p at b (k + 1) number end out
       extend-unmet f = build-unmet k number end out h B its-pair (its-test ∙ f)
@@ -248,10 +250,10 @@ module _ (a : Archive) (p : Pair) (at : ℕ) (b : List ℕ) where
         extend-room w g = room-more k number end out h B its-pair (its-test ∙ f) w g
 
   -- past the last pair the term is whole
-  pub build-end : (number end : ℕ) (out : List ℕ) → (length (wordsOf (problemIn a) p) ≡ 0 → ⊥) → Building a p at b 1024 number end out → BuiltAs a p at b out (judge (problemIn a) p) (TermTo end)
+  pub build-end : (k number end : ℕ) (out : List ℕ) → 32 * a .parties ≤ k → (length (wordsOf (problemIn a) p) ≡ 0 → ⊥) → Building a p at b k number end out → BuiltAs a p at b out (judge (problemIn a) p) (TermTo end)
   unfolding judgeFrom termBytes
-  build-end number end out full B =
-      let r : rivalFrom (problemIn a) p (B .term) [] ≡ rivalFrom (problemIn a) p (begin (problemIn a) p (wordsOf (problemIn a) p)) (problemIn a .pairs) = rw (pairs-end (a .parties)) at (B .rivals) in
-      let t : B .term ≡ termOf (problemIn a) p = sym (add-end (problemIn a) p (B .term)) ∙ (rw (pairs-end (a .parties)) at (B .rest)) in
+  build-end k number end out past full B =
+      let r : rivalFrom (problemIn a) p (B .term) [] ≡ rivalFrom (problemIn a) p (begin (problemIn a) p (wordsOf (problemIn a) p)) (problemIn a .pairs) = rw (pairs-end (a .parties) k past) at (B .rivals) in
+      let t : B .term ≡ termOf (problemIn a) p = sym (add-end (problemIn a) p (B .term)) ∙ (rw (pairs-end (a .parties) k past) at (B .rest)) in
       let j : judge (problemIn a) p ≡ convertible = sym (judge-from (problemIn a) p) ∙ ap (ruling (problemIn a) p (wordsOf (problemIn a) p)) (sym r ∙ rival-end (problemIn a) p (B .term)) ∙ ruled-fit (problemIn a) p (wordsOf (problemIn a) p) full in
       rw j (ap TermTo (B .ends ∙ ap (λ (x : Term Word). at + length (bytesOf x)) t), B .bytes ∙ ap (λ (x : Term Word). put b at (bytesOf x)) t)

@@ -7,11 +7,12 @@ use Prim.Native.Nat.{ℕ, zero, suc, _+_, _*_, _-_, _/_, _%_, _≤_, _<_}
 use native.Mathlib.Omega.{arith}
 use native.Mathlib.Decide.{decLt}
 use lib.Dec.{eqb, ltb}
-use borrow.Author.Tests.{lt-ltb, eq-eqb, ne-eqb, ltb-true}
+use borrow.Author.Tests.{lt-ltb, le-ltb, ne-eqb, ltb-true}
 use Rattle.lists.specs.Lists.{filterBy, upFrom}
 use Rattle.lists.specs.Order.{Ascending}
 use Rattle.lists.proofs.ListLaws.{filter-in, filter-out, map-in, map-out, up-in, up-out}
 use Rattle.lists.proofs.OrderLaws.{ascending-filter, ascending-map, ascending-equal, up-ascending}
+use Rattle.lists.proofs.Pointwise.{filter-none}
 use Rattle.rebac.specs.Matter.{Pair, pair, IsPair, pairBefore, pairsOf}
 use Rattle.rebac.proofs.PairsLaws.{pairs-in, pairs-out, pairs-ascending, pair-one-way}
 use Rattle.rebac.proofs.LexOrder.{first-lower, first-same}
@@ -81,6 +82,8 @@ module _ (n k : ℕ) (h : k < 1024) where
   unfolding pairsFrom filterBy
   pairs-take e = rw (from-next, e, filterBy) refl
 
-pub pairs-end : (n : ℕ) → pairsFrom n 1024 ≡ []
-unfolding pairsFrom filterBy upFrom
-pairs-end n = refl
+-- past the last party's numbers there is no pair
+pub pairs-end : (n k : ℕ) → 32 * n ≤ k → pairsFrom n k ≡ []
+unfolding pairsFrom isPair
+pairs-end n k h =
+    rw (filter-none (isPairAt n) (upFrom k (1024 - k)) (λ i m. let r = up-out k (1024 - k) m in rw (le-ltb (i / 32) n (omega (arith, r .0, h))) refl)) refl

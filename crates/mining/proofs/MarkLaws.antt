@@ -48,12 +48,12 @@ module _ (f : ℕ → ℕ → Bool) (n : ℕ) (few : n ≤ 32) (old : Row) where
   pub mark-start : MarkedTo f n old old 0
   mark-start x y = sym (none-yet (testBit (maskIn old x) y) (ltb (32 * x + y) 0) (isPair n x y && f x y) (le-ltb (32 * x + y) 0 (omega arith)))
 
-  pub mark-end : (row : Row) → MarkedTo f n old row 1024 → (x y : ℕ) → testBit (maskIn row x) y ≡ (testBit (maskIn old x) y || (isPair n x y && f x y))
-  mark-end row h x y =
+  pub mark-end : (row : Row) (k : ℕ) → 32 * n ≤ k → MarkedTo f n old row k → (x y : ℕ) → testBit (maskIn row x) y ≡ (testBit (maskIn old x) y || (isPair n x y && f x y))
+  mark-end row k past h x y =
       h x y ∙ ap (λ (b : Bool). testBit (maskIn old x) y || b)
       (by-test (isPair n x y)
-      (λ e. let i = pair-of n x y e in rw (lt-ltb (32 * x + y) 1024 (omega (arith, i .first, i .second, few))) refl)
-      (λ e. rw e (by-test (ltb (32 * x + y) 1024) (λ q. rw q refl) (λ q. rw q refl))))
+      (λ e. let i = pair-of n x y e in rw (lt-ltb (32 * x + y) k (omega (arith, i .first, i .second, few, past))) refl)
+      (λ e. rw e (by-test (ltb (32 * x + y) k) (λ q. rw q refl) (λ q. rw q refl))))
 
   module _ (row : Row) (k : ℕ) (m : MarkedTo f n old row k) where
     -- a pair of another number is as before

@@ -5,14 +5,14 @@ use mathlib.Core.List.{List, [], _∷_, _++_}
 use Prim.Native.Nat.{ℕ, _+_, _/_, _%_, _≤_}
 use native.Mathlib.Omega.{arith}
 use lib.ListN.{length, drop}
-use Rattle.lists.proofs.Cases.{clash, both, and-left}
+use Rattle.lists.proofs.Cases.{by-test, clash, and-left}
 use Rattle.masks.specs.Mask.{testBit}
 use Rattle.masks.specs.Table.{maskIn}
 use Rattle.masks.specs.declared.Row.{Row}
 use Rattle.rebac.specs.Matter.{Matter, Pair, pair, IsPair}
 use Rattle.rebac.specs.Words.{Word}
 use Rattle.rebac.specs.Rules.{RuleList, permits}
-use Rattle.rebac.specs.Verdict.{Verdict, convertible, noWord, rivalled, judge}
+use Rattle.rebac.specs.Verdict.{Verdict, convertible, noWord, rivalled}
 use Rattle.rebac.specs.Mining.{termOf}
 use Rattle.rebac.specs.Existence.{plainTerm}
 use Rattle.rebac.proofs.MiningLaws.{term-owned}
@@ -24,7 +24,7 @@ use Rattle.rules.specs.Reading.{TermAt}
 use Rattle.rules.specs.Writing.{put}
 use Rattle.mining.specs.Pairs.{pairAt, isPairAt}
 use Rattle.mining.specs.Building.{problemIn, named, bytesOf, termBytes, BuiltAs}
-use Rattle.mining.specs.Taking.{Marks, due, JudgedAs, TakenAs}
+use Rattle.mining.specs.Taking.{Marks, due, dueBy, JudgedAs}
 use Rattle.mining.specs.declared.build.Built.the-variants.{NoWord, Rival, Term as TermTo}
 use Rattle.mining.specs.declared.build.Pair.{Pair as PairValue}
 use Rattle.mining.specs.declared.take.Taken.{Taken}
@@ -32,18 +32,29 @@ use Rattle.mining.specs.declared.take.Judgment.the-variants.{Fit, Wordle
 use Rattle.mining.proofs.ArchiveLaws.{problem-permitted, few-words, owned-fits}
 use Rattle.mining.proofs.BuildLaws.{put-drop}
 
-module _ (a : Archive) (l : RuleList Word) (k : ℕ) where
-  pub due-no-pair : isPairAt (a .parties) k ≡ false → false ≡ due a l k
-  unfolding due
+module _ (n : ℕ) (permits marks : Row) (k : ℕ) where
+  pub due-no-pair : isPairAt n k ≡ false → false ≡ dueBy n permits marks k
+  unfolding dueBy
   due-no-pair e = rw e refl
 
-  pub due-unpermitted : isPairAt (a .parties) k ≡ true → testBit (maskIn (a .permits) (k / 32)) (k % 32) ≡ false → false ≡ due a l k
-  unfolding due
-  due-unpermitted e p = rw (e, problem-permitted a (pairAt k) ∙ p) refl
+  pub due-unpermitted : isPairAt n k ≡ true → testBit (maskIn permits (k / 32)) (k % 32) ≡ false → false ≡ dueBy n permits marks k
+  unfolding dueBy
+  due-unpermitted e p = rw (e, p) refl
 
-  pub due-by-mark : (marks : Row) → Marks a l marks → isPairAt (a .parties) k ≡ true → testBit (maskIn (a .permits) (k / 32)) (k % 32) ≡ true → (r : Bool) → r ≡ testBit (maskIn marks (k / 32)) (k % 32) → not r ≡ due a l k
-  unfolding due
-  due-by-mark marks m e p r h = rw (e, problem-permitted a (pairAt k) ∙ p) (let z : testBit (maskIn marks (k / 32)) (k % 32) ≡ permits (problemIn a) l (pairAt k) = m (k / 32) (k % 32) ∙ ap (λ (b : Bool). b && permits (problemIn a) l (pairAt k)) e in ap not (h ∙ z))
+  pub due-by-mark : isPairAt n k ≡ true → testBit (maskIn permits (k / 32)) (k % 32) ≡ true → (r : Bool) → r ≡ testBit (maskIn marks (k / 32)) (k % 32) → not r ≡ dueBy n permits marks k
+  unfolding dueBy
+  due-by-mark e p r h = rw (e, p) (ap not h)
+
+module _ (a : Archive) (l : RuleList Word) (k : ℕ) where
+  -- the masks tell whether a pair is due
+  pub due-marked : (marks : Row) → Marks a l marks → dueBy (a .parties) (a .permits) marks k ≡ due a l k
+  unfolding dueBy due
+  due-marked marks m =
+      by-test (isPairAt (a .parties) k)
+      (λ e.
+      let z : testBit (maskIn marks (k / 32)) (k % 32) ≡ permits (problemIn a) l (pairAt k) = m (k / 32) (k % 32) ∙ ap (λ (b : Bool). b && permits (problemIn a) l (pairAt k)) e in
+      rw (e, z, problem-permitted a (pairAt k)) refl)
+      (λ e. rw e refl)
 
   pub due-pair : due a l k ≡ true → IsPair (a .parties) (pairAt k)
   unfolding due
@@ -64,14 +75,6 @@ module _ (a : Archive) (p : Pair) (at : ℕ) (old new : List ℕ) where
   }
 
 module _ (a : Archive) (l : RuleList Word) (k at : ℕ) (old new : List ℕ) (t : Taken) where
-  -- a pair that is passed over
-  pub taken-passed : due a l k ≡ false → t .judgment ≡ Fit → t .end ≡ at → new ≡ old → Marks a l (t .marks) → TakenAs a l k at old new t
-  taken-passed d j e n m = record { passed = λ x. (j, (e, (n, m))); judged = λ x. both x d }
-
-  -- a pair that is due
-  pub taken-due : due a l k ≡ true → JudgedAs a l k at old new (judge (problemIn a) (pairAt k)) t → TakenAs a l k at old new t
-  taken-due d h = record { passed = λ x. both d x; judged = λ x. h }
-
   pub judged-wordless : (v : Verdict Pair) → BuiltAs a (pairAt k) at old new v NoWord → t .judgment ≡ Wordless → JudgedAs a l k at old new v t
   judged-wordless convertible h j = clash (cc (h .0))
   judged-wordless (noWord x) h j = j

@@ -1,4 +1,4 @@
--- One pair taken in turn: judged and given its term, or passed over. What the verdict and mining do with each pair.
+-- One due pair taken in turn: judged and given its term. What the verdict and mining do with each pair.
 use Prim.Native.Nat.{ℕ, _+_, _≤_, _/_, _%_}
 use mathlib.Core.Path.{_≡_}
 use mathlib.Core.Bool.{Bool, true, false, not, _&&_}
@@ -28,18 +28,20 @@ Marks a r row = (u v : ℕ) → testBit (maskIn row u) v ≡ (isPair (a .parties
 unfoldable pub due : Archive → RuleList Word → ℕ → Bool
 due a r k = isPairAt (a .parties) k && (problemIn a .permitted (pairAt k) && not (permits (problemIn a) r (pairAt k)))
 
--- there is room for the term, where one is due
+-- the same, told from the masks of the permit table and of the marks
+unfoldable pub dueBy : ℕ → Row → Row → ℕ → Bool
+dueBy n permits marks k = isPairAt n k && (testBit (maskIn permits (k / 32)) (k % 32) && not (testBit (maskIn marks (k / 32)) (k % 32)))
+
+-- the pair is due for some list with these marks, and there is room for its term
 pub record Ready (a : Archive) (row : Row) (k at size : ℕ) : Type 0 where
   pub list : RuleList Word
   pub marks : Marks a list row
-  pub room : due a list k ≡ true → at + length (termBytes a (pairAt k)) ≤ size
+  pub due : due a list k ≡ true
+  pub room : at + length (termBytes a (pairAt k)) ≤ size
 
+-- what is in the way by the pair's judgment, or its term written and the marks of the list with it
 abbrev pub JudgedAs : Archive → RuleList Word → ℕ → ℕ → List ℕ → List ℕ → Verdict Pair → Taken → Type 0
 JudgedAs a r k at old new convertible t =
     (t .judgment ≡ Fit) × ((t .end ≡ at + length (termBytes a (pairAt k))) × ((new ≡ put old at (termBytes a (pairAt k))) × Marks a (r ++ (termOf (problemIn a) (pairAt k) ∷ [])) (t .marks)))
 JudgedAs a r k at old new (noWord x) t = t .judgment ≡ Wordless
 JudgedAs a r k at old new (rivalled x q) t = t .judgment ≡ Rivalled (named q)
-
-pub record TakenAs (a : Archive) (r : RuleList Word) (k at : ℕ) (old new : List ℕ) (t : Taken) : Type 0 where
-  pub passed : due a r k ≡ false → (t .judgment ≡ Fit) × ((t .end ≡ at) × ((new ≡ old) × Marks a r (t .marks)))
-  pub judged : due a r k ≡ true → JudgedAs a r k at old new (judge (problemIn a) (pairAt k)) t

@@ -3,6 +3,8 @@ ghost use mathlib.Core.Path.{_≡_};
 ghost use mathlib.Core.Bool.{not, _&&_};
 ghost use Prim.Native.Nat.{ℕ, _+_, _≤_};
 ghost use lib.ListN.{length};
+ghost use Rattle.masks.specs.Mask.{testBit};
+ghost use Rattle.masks.specs.Table.{maskIn};
 ghost use Rattle.rebac.specs.Matter.{Matter, IsPair, pair};
 ghost use Rattle.rebac.specs.Verdict.{judge, wordsOf};
 ghost use Rattle.graph.specs.Archive.{Shows};
@@ -13,6 +15,7 @@ use crate::lacked::first_lacked;
 use crate::lacked::first_word;
 use crate::term::add_word;
 use graph::Archive;
+use masks::Row;
 
 pub struct Pair {
     pub first: usize,
@@ -27,13 +30,12 @@ pub enum Built {
 }
 
 // Whether two numbers are a pair that the table doesn't permit.
-pub fn unpermitted(a: Archive, u: usize, v: usize) -> bool
-    requires { ⌜ a .parties ≤ 32 ⌝ }
-    ensures { λ r. ⌜ r ≡ (isPair (a .parties) u v && not (problemIn a .permitted (pair u v))) ⌝ }
+pub fn unpermitted(n: usize, permits: Row, u: usize, v: usize) -> bool
+    requires { ⌜ n ≤ 32 ⌝ }
+    ensures { λ r. ⌜ r ≡ (isPair n u v && not (testBit (maskIn permits u) v)) ⌝ }
 {
-    if graph::is_pair(a.parties, u, v) {
-        let row = a.permits;
-        return !masks::has(row.masks[u], v as u32);
+    if graph::is_pair(n, u, v) {
+        return !masks::has(permits.masks[u], v as u32);
     }
     false
 }
@@ -52,10 +54,11 @@ fn extend_term(
 {
     let mut number: usize = 1;
     let mut end = from;
-    'pairs: for k in 0..1024 {
+    let count = 32 * a.parties;
+    'pairs: for k in 0..count {
         let u: usize = k / 32;
         let v: usize = k % 32;
-        if !unpermitted(a, u, v) {
+        if !unpermitted(a.parties, a.permits, u, v) {
             continue 'pairs;
         }
         let mut place = at + 2;

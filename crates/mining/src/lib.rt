@@ -10,5 +10,6 @@ pub use build::build_term;
 pub use lacked::first_lacked;
 pub use take::Judgment;
 pub use take::Taken;
-pub use take::take_pair;
+pub use take::is_due;
+pub use take::take_due;
 pub use term::add_word;

@@ -2,25 +2,28 @@
 ghost use mathlib.Core.Path.{_≡_};
 ghost use mathlib.Core.Bool.{_&&_, _||_};
 ghost use mathlib.Core.List.{List};
-ghost use Prim.Native.Nat.{ℕ, _+_, _≤_, _<_};
+ghost use Prim.Native.Nat.{ℕ, _*_, _≤_, _<_};
 ghost use lib.ListN.{length};
 ghost use Rattle.masks.specs.Mask.{testBit};
 ghost use Rattle.masks.specs.Table.{maskIn};
 ghost use Rattle.rebac.specs.Matter.{Matter, pair};
 ghost use Rattle.rebac.specs.Words.{Word as Symbols};
 ghost use Rattle.rebac.specs.Rules.{RuleList};
+ghost use Rattle.rebac.specs.Verdict.{judge};
 ghost use Rattle.graph.specs.Archive.{Shows};
 ghost use Rattle.graph.specs.Legal.{isPair};
 ghost use Rattle.rules.specs.Reading.{TermAt, SomeTerm};
 ghost use Rattle.rules.specs.Permit.{meetsTerm};
-ghost use Rattle.mining.specs.Taking.{Marks, due, Ready, TakenAs};
+ghost use Rattle.mining.specs.Pairs.{pairAt};
+ghost use Rattle.mining.specs.Building.{problemIn};
+ghost use Rattle.mining.specs.Taking.{Marks, dueBy, Ready, JudgedAs};
 use crate::build::Built;
 use crate::build::Pair;
 use crate::build::build_term;
 use graph::Archive;
 use masks::Row;
 
-// Fit: the pair is passed over or has its term.
+// Fit: the pair has its term.
 pub enum Judgment {
     Fit,
     Wordless,
@@ -40,7 +43,8 @@ fn mark_term(a: Archive, marks: Row, list: &[u8], at: usize) -> Row
     ensures { λ r. ⌜ ((t : List (List ℕ)) (s : List ℕ) → TermAt (now (list .entry)) at t s → (u v : ℕ) → testBit (maskIn r u) v ≡ (testBit (maskIn marks u) v || (isPair (a .parties) u v && meetsTerm (a .parties) (a .graph) u v t))) ⌝ }
 {
     let mut row = marks;
-    for k in 0..1024 {
+    let count = 32 * a.parties;
+    for k in 0..count {
         let u: usize = k / 32;
         let v: usize = k % 32;
         if !graph::is_pair(a.parties, u, v) {
@@ -59,34 +63,26 @@ fn mark_term(a: Archive, marks: Row, list: &[u8], at: usize) -> Row
 }
 
 // Whether the pair of number k is permitted, and no term so far permits it.
-fn is_due(a: Archive, marks: Row, k: usize) -> bool
-    requires { ⌜ (k < 1024) × (a .parties ≤ 32) ⌝ }
-    ensures { λ r. ⌜ ((l : RuleList Symbols) → Marks a l marks → r ≡ due a l k) ⌝ }
+pub fn is_due(n: usize, permits: Row, marks: Row, k: usize) -> bool
+    requires { ⌜ (k < 32 * n) × (n ≤ 32) ⌝ }
+    ensures { λ r. ⌜ r ≡ dueBy n permits marks k ⌝ }
 {
     let u: usize = k / 32;
     let v: usize = k % 32;
-    if !graph::is_pair(a.parties, u, v) {
+    if !graph::is_pair(n, u, v) {
         return false;
     }
-    let permits = a.permits;
     if !masks::has(permits.masks[u], v as u32) {
         return false;
     }
     !masks::has(marks.masks[u], v as u32)
 }
 
-// The pair of number k: passed over unless it is due, else its term from place `at` on.
-pub fn take_pair(a: Archive, marks: Row, k: usize, out: &mut [u8], at: usize) -> Taken
+// The due pair of number k: its term from place `at` on, or what is in the way.
+pub fn take_due(a: Archive, marks: Row, k: usize, out: &mut [u8], at: usize) -> Taken
     requires { ⌜ (k < 1024) × (((M : Matter) × Shows M a) × Ready a marks k at (length (now out))) ⌝ }
-    ensures { λ r. ⌜ ((l : RuleList Symbols) → Marks a l marks → TakenAs a l k at (now (out .entry)) (now (out .exit)) r) ⌝ }
+    ensures { λ r. ⌜ ((l : RuleList Symbols) → Marks a l marks → JudgedAs a l k at (now (out .entry)) (now (out .exit)) (judge (problemIn a) (pairAt k)) r) ⌝ }
 {
-    if !is_due(a, marks, k) {
-        return Taken {
-            judgment: Judgment::Fit,
-            end: at,
-            marks,
-        };
-    }
     let b = build_term(a, k / 32, k % 32, out, at);
     match b {
         Built::NoWord => Taken {

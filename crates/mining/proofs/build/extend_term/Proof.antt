@@ -3,7 +3,7 @@ use mathlib.Core.Path.{_≡_, refl, sym, ap, _∙_}
 use mathlib.Core.Bool.{Bool, true, false, not, _&&_}
 use mathlib.Core.List.{List, [], _∷_, _++_}
 use mathlib.Core.Option.{some}
-use Prim.Native.Nat.{ℕ, _+_, _-_, _/_, _%_, _≤_, _<_}
+use Prim.Native.Nat.{ℕ, _+_, _-_, _*_, _/_, _%_, _≤_, _<_}
 use native.Mathlib.Omega.{arith}
 use borrow.Author.Needs.{needs}
 use borrow.Author.Tests.{not-true, not-false}
@@ -36,27 +36,32 @@ use Rattle.mining.proofs.build.extend_term.Statement.{statement}
 use Rattle.mining.proofs.build.extend_term.Tie as tie
 
 abbrev Inv-loop : tie.InvT-loop
-Inv-loop a first second out at from number end k₀ u v place₀ left₀ k place left =
+Inv-loop a first second out at from number end count k₀ u v place₀ left₀ k place left =
     (k ≡ k₀) × ((t : List (List ℕ)) (s : List ℕ) → TermAt out at t s → TermSoFar (has (tableGraph (a .parties) (a .graph)) (pair u v)) out place left true t s)
 
 abbrev μ-loop : tie.MeasureT-loop
-μ-loop a first second out at from number end k₀ u v place₀ left₀ k place left = left
+μ-loop a first second out at from number end count k₀ u v place₀ left₀ k place left = left
 
 abbrev Inv-pairs : tie.InvT-pairs
-Inv-pairs a first second out₀ at from number₀ end₀ k₀ out number end k = (k ≤ 1024) × Building a (pair first second) at out₀ k number end out
+Inv-pairs a first second out₀ at from number₀ end₀ count k₀ out number end k = (k ≤ 32 * a .parties) × Building a (pair first second) at out₀ k number end out
 
 abbrev μ-pairs : tie.MeasureT-pairs
-μ-pairs a first second out₀ at from number₀ end₀ k₀ out number end k = 1024 - k
+μ-pairs a first second out₀ at from number₀ end₀ count k₀ out number end k = 32 * a .parties - k
+
+mul-count : tie.Need-mul-count Inv-loop μ-loop Inv-pairs μ-pairs
+mul-count c =
+    let x = c .before .before in
+    omega (arith, few-parties (x .pre .1 .0 .0) (x .args .a) (x .pre .1 .0 .1))
 
 pairs-holds : tie.Need-pairs-holds Inv-loop μ-loop Inv-pairs μ-pairs
 pairs-holds c =
-    let x = c .before in
+    let x = c .before .before in
     let q = x .pre .1 .1 in
     (omega arith, build-start (x .args .a) _ (x .args .at) (x .args .out .now) (few-parties (x .pre .1 .0 .0) (x .args .a) (x .pre .1 .0 .1)) (q .0) (x .args .from) (q .1 .0) (q .1 .1 .1))
 
 unpermitted-requires : tie.Need-unpermitted-requires Inv-loop μ-loop Inv-pairs μ-pairs
 unpermitted-requires c κs =
-    let x = c .before .before .before in
+    let x = c .before .before .before .before in
     few-parties (x .pre .1 .0 .0) (x .args .a) (x .pre .1 .0 .1)
 
 add-k : tie.Need-add-k Inv-loop μ-loop Inv-pairs μ-pairs
@@ -69,14 +74,14 @@ pairs-less c =
 
 pairs-again : tie.Need-pairs-again Inv-loop μ-loop Inv-pairs μ-pairs
 pairs-again c =
-    let x = c .before .before .before .before .before in
+    let x = c .before .before .before .before .before .before in
     let o = c .before .before .before .pairs in
     let e = sym (c .before .unpermitted .ensures) ∙ not-true (c .before .unpermitted .result) (c .if1 .taken) in
-    (omega (arith, c .before .before .pairs-test .taken), extend-skip (x .args .a) _ (x .args .at) (x .args .out .now) (o .k) (o .number) (o .end) (o .out) (c .before .before .pairs-test .taken) (o .inv .1) e)
+    (omega (arith, c .before .before .pairs-test .taken), extend-skip (x .args .a) _ (x .args .at) (x .args .out .now) (o .k) (o .number) (o .end) (o .out) (omega (arith, c .before .before .pairs-test .taken, few-parties (x .pre .1 .0 .0) (x .args .a) (x .pre .1 .0 .1))) (o .inv .1) e)
 
 add-place : tie.Need-add-place Inv-loop μ-loop Inv-pairs μ-pairs
 add-place c =
-    let x = c .before .before .before .before .before in
+    let x = c .before .before .before .before .before .before in
     let o = c .before .before .before .pairs in
     let M = x .pre .1 .0 .0 in
     let S = x .pre .1 .0 .1 in
@@ -87,7 +92,7 @@ add-place c =
 
 loop-holds : tie.Need-loop-holds Inv-loop μ-loop Inv-pairs μ-pairs
 loop-holds c =
-    let x = c .before .before .before .before .before in
+    let x = c .before .before .before .before .before .before in
     let o = c .before .before .before .pairs in
     let M = x .pre .1 .0 .0 in
     let S = x .pre .1 .0 .1 in
@@ -96,9 +101,9 @@ loop-holds c =
     (refl, λ t s h. meet-start _ _ t s _ _ h (build-count (x .args .a) p (x .args .at) (x .args .out .now) (o .k) (o .number) (o .end) (o .out) (o .inv .1) M S (omega (arith, r))))
 
 -- the term that stands at its place
-stands : (c : tie.In-pairs Inv-loop μ-loop Inv-pairs μ-pairs) → TermAt (c .before .pairs .out) (c .before .before .before .args .at) (plainTerm (c .before .pairs .inv .1 .term)) (drop (c .before .before .before .args .at + length (bytesOf (c .before .pairs .inv .1 .term))) (c .before .before .before .args .out .now))
+stands : (c : tie.In-pairs Inv-loop μ-loop Inv-pairs μ-pairs) → TermAt (c .before .pairs .out) (c .before .before .before .before .args .at) (plainTerm (c .before .pairs .inv .1 .term)) (drop (c .before .before .before .before .args .at + length (bytesOf (c .before .pairs .inv .1 .term))) (c .before .before .before .before .args .out .now))
 stands c =
-    let x = c .before .before .before in
+    let x = c .before .before .before .before in
     let o = c .before .pairs in
     let M = x .pre .1 .0 .0 in
     let S = x .pre .1 .0 .1 in
@@ -113,17 +118,17 @@ read-word-requires c κs =
 
 has-word-requires : tie.Need-has-word-requires Inv-loop μ-loop Inv-pairs μ-pairs
 has-word-requires c κs =
-    let x = c .before .before .before .before .before .before .before .before .before .before in
+    let x = c .before .before .before .before .before .before .before .before .before .before .before in
     let n = meet-entry _ _ _ _ _ _ _ (c .before .before .before .before .loop .inv .1 _ _ (stands (c .before .before .before .before .before .before .before))) (c .before .before .before .loop-test .taken) in
     let k : c .before .read-word .result .word ≡ wordOf (n .first) = ap (λ (r : WordRead). r .word) (c .before .read-word .ensures) ∙ word-value (c .before .before .before .before .before .before .before .before .pairs .out) (c .before .before .before .before .loop .place) (n .first) _ (n .bytes) in
     let e = sym (c .before .before .before .before .before .before .unpermitted .ensures) ∙ not-false (c .before .before .before .before .before .before .unpermitted .result) (c .before .before .before .before .before .if1 .left) in
     query-in (x .pre .1 .0 .0) (x .args .a) (x .pre .1 .0 .1) _ _ _ (pair-of _ _ _ (and-left _ _ e)) (rw k (word-short (n .first) (n .fits)))
 
 -- whether the pair has the word that was read
-first-had : (c : tie.After-has-word Inv-loop μ-loop Inv-pairs μ-pairs) (t : List (List ℕ)) (s : List ℕ) (h : TermAt (c .before .before .before .before .before .before .before .before .before .pairs .out) (c .before .before .before .before .before .before .before .before .before .before .before .args .at) t s)
-    → c .has-word .result ≡ has (tableGraph (c .before .before .before .before .before .before .before .before .before .before .before .args .a .parties) (c .before .before .before .before .before .before .before .before .before .before .before .args .a .graph)) (pair (c .before .before .before .before .before .before .before .before .before .pairs .k / 32) (c .before .before .before .before .before .before .before .before .before .pairs .k % 32)) (meet-entry _ _ _ _ _ _ _ (c .before .before .before .before .before .loop .inv .1 t s h) (c .before .before .before .before .loop-test .taken) .first)
+first-had : (c : tie.After-has-word Inv-loop μ-loop Inv-pairs μ-pairs) (t : List (List ℕ)) (s : List ℕ) (h : TermAt (c .before .before .before .before .before .before .before .before .before .pairs .out) (c .before .before .before .before .before .before .before .before .before .before .before .before .args .at) t s)
+    → c .has-word .result ≡ has (tableGraph (c .before .before .before .before .before .before .before .before .before .before .before .before .args .a .parties) (c .before .before .before .before .before .before .before .before .before .before .before .before .args .a .graph)) (pair (c .before .before .before .before .before .before .before .before .before .pairs .k / 32) (c .before .before .before .before .before .before .before .before .before .pairs .k % 32)) (meet-entry _ _ _ _ _ _ _ (c .before .before .before .before .before .loop .inv .1 t s h) (c .before .before .before .before .loop-test .taken) .first)
 first-had c t s h =
-    let x = c .before .before .before .before .before .before .before .before .before .before .before in
+    let x = c .before .before .before .before .before .before .before .before .before .before .before .before in
     let o = c .before .before .before .before .before .before .before .before .before .pairs in
     let n = meet-entry _ _ _ _ _ _ _ (c .before .before .before .before .before .loop .inv .1 t s h) (c .before .before .before .before .loop-test .taken) in
     let q : List ℕ → Bool = has (tableGraph (x .args .a .parties) (x .args .a .graph)) (pair (o .k / 32) (o .k % 32)) in
@@ -140,7 +145,7 @@ pairs-less-2 c =
 
 pairs-again-2 : tie.Need-pairs-again-2 Inv-loop μ-loop Inv-pairs μ-pairs
 pairs-again-2 c =
-    let x = c .before .before .before .before .before .before .before .before .before .before .before .before in
+    let x = c .before .before .before .before .before .before .before .before .before .before .before .before .before in
     let o = c .before .before .before .before .before .before .before .before .before .before .pairs in
     let M = x .pre .1 .0 .0 in
     let S = x .pre .1 .0 .1 in
@@ -150,7 +155,7 @@ pairs-again-2 c =
     let l = c .before .before .before .before .before .before .loop in
     let h = stands (c .before .before .before .before .before .before .before .before .before) in
     let f = meet-next _ _ _ _ _ _ _ (l .inv .1 _ _ h) (c .before .before .before .before .before .loop-test .taken) false (sym (not-true (c .before .has-word .result) (c .if2 .taken)) ∙ first-had (c .before) _ _ h) in
-    (omega (arith, c .before .before .before .before .before .before .before .before .before .pairs-test .taken, l .inv .0), rw (l .inv .0) (extend-unmet (x .args .a) p (x .args .at) (x .args .out .now) (o .k) (o .number) (o .end) (o .out) (c .before .before .before .before .before .before .before .before .before .pairs-test .taken) (o .inv .1) M S e (f .same)))
+    (omega (arith, c .before .before .before .before .before .before .before .before .before .pairs-test .taken, l .inv .0), rw (l .inv .0) (extend-unmet (x .args .a) p (x .args .at) (x .args .out .now) (o .k) (o .number) (o .end) (o .out) (omega (arith, c .before .before .before .before .before .before .before .before .before .pairs-test .taken, few-parties (x .pre .1 .0 .0) (x .args .a) (x .pre .1 .0 .1))) (o .inv .1) M S e (f .same)))
 
 sub-left : tie.Need-sub-left Inv-loop μ-loop Inv-pairs μ-pairs
 sub-left c =
@@ -168,13 +173,13 @@ loop-again c =
 
 first-lacked-requires : tie.Need-first-lacked-requires Inv-loop μ-loop Inv-pairs μ-pairs
 first-lacked-requires c κs =
-    let x = c .before .before .before .before .before .before .before in
+    let x = c .before .before .before .before .before .before .before .before in
     let e = sym (c .before .before .before .unpermitted .ensures) ∙ not-false (c .before .before .before .unpermitted .result) (c .before .before .if1 .left) in
     (x .pre .0, (pair-of _ _ _ (and-left _ _ e), x .pre .1 .0))
 
 same-length : tie.Need-same-length Inv-loop μ-loop Inv-pairs μ-pairs
 same-length c =
-    let x = c .before .before .before .before .before .before .before .before .before .before in
+    let x = c .before .before .before .before .before .before .before .before .before .before .before in
     let o = c .before .before .before .before .before .before .before .before .pairs in
     let M = x .pre .1 .0 .0 in
     let S = x .pre .1 .0 .1 in
@@ -183,33 +188,33 @@ same-length c =
     build-same (x .args .a) p (x .args .at) (x .args .out .now) (o .k) (o .number) (o .end) (o .out) (o .inv .1) r
 
 -- the pair has every word of the term
-all-had : (c : tie.After-loop Inv-loop μ-loop Inv-pairs μ-pairs) → true ≡ allOf (has (tableGraph (c .before .before .before .before .before .before .before .args .a .parties) (c .before .before .before .before .before .before .before .args .a .graph)) (pair (c .before .before .before .before .before .pairs .k / 32) (c .before .before .before .before .before .pairs .k % 32))) (plainTerm (c .before .before .before .before .before .pairs .inv .1 .term))
+all-had : (c : tie.After-loop Inv-loop μ-loop Inv-pairs μ-pairs) → true ≡ allOf (has (tableGraph (c .before .before .before .before .before .before .before .before .args .a .parties) (c .before .before .before .before .before .before .before .before .args .a .graph)) (pair (c .before .before .before .before .before .pairs .k / 32) (c .before .before .before .before .before .pairs .k % 32))) (plainTerm (c .before .before .before .before .before .pairs .inv .1 .term))
 all-had c = meet-end _ _ _ _ _ _ _ (c .before .loop .inv .1 _ _ (stands (c .before .before .before .before))) (omega (arith, c .loop-test .left)) .0
 
 -- the first word that it lacks, over the archive's conversion
-lacked : (c : tie.After-first-lacked Inv-loop μ-loop Inv-pairs μ-pairs) → NextAs (firstBy (lacks (problemIn (c .before .before .before .before .before .before .before .before .args .a)) (pair (c .before .before .before .before .before .before .before .before .args .first) (c .before .before .before .before .before .before .before .before .args .second)) (pair (c .before .before .before .before .before .before .pairs .k / 32) (c .before .before .before .before .before .before .pairs .k % 32))) (wordsOf (problemIn (c .before .before .before .before .before .before .before .before .args .a)) (pair (c .before .before .before .before .before .before .before .before .args .first) (c .before .before .before .before .before .before .before .before .args .second)))) (c .first-lacked .result)
+lacked : (c : tie.After-first-lacked Inv-loop μ-loop Inv-pairs μ-pairs) → NextAs (firstBy (lacks (problemIn (c .before .before .before .before .before .before .before .before .before .args .a)) (pair (c .before .before .before .before .before .before .before .before .before .args .first) (c .before .before .before .before .before .before .before .before .before .args .second)) (pair (c .before .before .before .before .before .before .pairs .k / 32) (c .before .before .before .before .before .before .pairs .k % 32))) (wordsOf (problemIn (c .before .before .before .before .before .before .before .before .before .args .a)) (pair (c .before .before .before .before .before .before .before .before .before .args .first) (c .before .before .before .before .before .before .before .before .before .args .second)))) (c .first-lacked .result)
 lacked c =
-    let x = c .before .before .before .before .before .before .before .before in
+    let x = c .before .before .before .before .before .before .before .before .before in
     lacked-shown (x .pre .1 .0 .0) (x .args .a) (x .pre .1 .0 .1) _ _ (c .first-lacked .result) (c .first-lacked .ensures .1 (x .pre .1 .0 .0) (x .pre .1 .0 .1))
 
 returns : tie.Need-returns Inv-loop μ-loop Inv-pairs μ-pairs
 returns c =
-    let x = c .before .before .before .before .before .before .before .before .before .before in
+    let x = c .before .before .before .before .before .before .before .before .before .before .before in
     let o = c .before .before .before .before .before .before .before .before .pairs in
     let M = x .pre .1 .0 .0 in
     let S = x .pre .1 .0 .1 in
     let p : Pair = pair (x .args .first) (x .args .second) in
     let r : x .args .at + length (termBytes (x .args .a) p) ≤ length (x .args .out .now) = x .pre .1 .1 .1 .1 .0 in
     let e = sym (c .before .before .before .before .before .before .unpermitted .ensures) ∙ not-false (c .before .before .before .before .before .before .unpermitted .result) (c .before .before .before .before .before .if1 .left) in
-    extend-rival (x .args .a) p (x .args .at) (x .args .out .now) (o .k) (o .number) (o .end) (o .out) (c .before .before .before .before .before .before .before .pairs-test .taken) (o .inv .1) M S e (sym (all-had (c .before .before .before))) (x .pre .1 .1 .0) (next-not _ _ (lacked (c .before .before)) (not-true _ (c .if3 .taken)))
+    extend-rival (x .args .a) p (x .args .at) (x .args .out .now) (o .k) (o .number) (o .end) (o .out) (omega (arith, c .before .before .before .before .before .before .before .pairs-test .taken, few-parties (x .pre .1 .0 .0) (x .args .a) (x .pre .1 .0 .1))) (o .inv .1) M S e (sym (all-had (c .before .before .before))) (x .pre .1 .1 .0) (next-not _ _ (lacked (c .before .before)) (not-true _ (c .if3 .taken)))
 
 -- the word added: the first that the pair lacks, and its length
-added : (c : tie.Else3 Inv-loop μ-loop Inv-pairs μ-pairs) → (w : List ℕ) × ((firstBy (lacks (problemIn (c .before .before .before .before .before .before .before .before .before .before .args .a)) (pair (c .before .before .before .before .before .before .before .before .before .before .args .first) (c .before .before .before .before .before .before .before .before .before .before .args .second)) (pair (c .before .before .before .before .before .before .before .before .pairs .k / 32) (c .before .before .before .before .before .before .before .before .pairs .k % 32))) (wordsOf (problemIn (c .before .before .before .before .before .before .before .before .before .before .args .a)) (pair (c .before .before .before .before .before .before .before .before .before .before .args .first) (c .before .before .before .before .before .before .before .before .before .before .args .second))) ≡ some w) × (symbolsIn (c .before .before .first-lacked .result .word) ≡ w))
+added : (c : tie.Else3 Inv-loop μ-loop Inv-pairs μ-pairs) → (w : List ℕ) × ((firstBy (lacks (problemIn (c .before .before .before .before .before .before .before .before .before .before .before .args .a)) (pair (c .before .before .before .before .before .before .before .before .before .before .before .args .first) (c .before .before .before .before .before .before .before .before .before .before .before .args .second)) (pair (c .before .before .before .before .before .before .before .before .pairs .k / 32) (c .before .before .before .before .before .before .before .before .pairs .k % 32))) (wordsOf (problemIn (c .before .before .before .before .before .before .before .before .before .before .before .args .a)) (pair (c .before .before .before .before .before .before .before .before .before .before .before .args .first) (c .before .before .before .before .before .before .before .before .before .before .before .args .second))) ≡ some w) × (symbolsIn (c .before .before .first-lacked .result .word) ≡ w))
 added c = next-some _ _ (lacked (c .before .before)) (not-false _ (c .if3 .left))
 
 add-word-requires : tie.Need-add-word-requires Inv-loop μ-loop Inv-pairs μ-pairs
 add-word-requires c κs =
-    let x = c .before .before .before .before .before .before .before .before .before .before .before .before in
+    let x = c .before .before .before .before .before .before .before .before .before .before .before .before .before in
     let o = c .before .before .before .before .before .before .before .before .before .before .pairs in
     let M = x .pre .1 .0 .0 in
     let S = x .pre .1 .0 .1 in
@@ -222,14 +227,14 @@ add-word-requires c κs =
     let m : length (y .0) ≡ w .len = ap length (sym (y .1 .1)) ∙ n in
     let f = sym (all-had (c .before .before .before .before .before)) in
     let s = build-room (x .args .a) p (x .args .at) (x .args .out .now) (o .k) (o .number) (o .end) (o .out) (o .inv .1) in
-    let t = extend-room (x .args .a) p (x .args .at) (x .args .out .now) (o .k) (o .number) (o .end) (o .out) (c .before .before .before .before .before .before .before .before .before .pairs-test .taken) (o .inv .1) M S e f (y .0) (y .1 .0) in
+    let t = extend-room (x .args .a) p (x .args .at) (x .args .out .now) (o .k) (o .number) (o .end) (o .out) (omega (arith, c .before .before .before .before .before .before .before .before .before .pairs-test .taken, few-parties (x .pre .1 .0 .0) (x .args .a) (x .pre .1 .0 .1))) (o .inv .1) M S e f (y .0) (y .1 .0) in
     let u = build-same (x .args .a) p (x .args .at) (x .args .out .now) (o .k) (o .number) (o .end) (o .out) (o .inv .1) r in
     let v = build-few (x .args .a) p (x .args .at) (x .args .out .now) (o .k) (o .number) (o .end) (o .out) (o .inv .1) (few-words M (x .args .a) S p) in
     (omega (arith, c .before .before .before .before .first-lacked .ensures .0 .len), (omega (arith, v, o .inv .1 .words), (s .0, omega (arith, t, m, u, r))))
 
 add-end : tie.Need-add-end Inv-loop μ-loop Inv-pairs μ-pairs
 add-end c =
-    let x = c .before .before .before .before .before .before .before .before .before .before .before .before .before .before .before in
+    let x = c .before .before .before .before .before .before .before .before .before .before .before .before .before .before .before .before in
     let o = c .before .before .before .before .before .before .before .before .before .before .before .before .before .pairs in
     let M = x .pre .1 .0 .0 in
     let S = x .pre .1 .0 .1 in
@@ -242,14 +247,14 @@ add-end c =
     let m : length (y .0) ≡ w .len = ap length (sym (y .1 .1)) ∙ n in
     let f = sym (all-had (c .before .before .before .before .before .before .before .before)) in
     let s = build-room (x .args .a) p (x .args .at) (x .args .out .now) (o .k) (o .number) (o .end) (o .out) (o .inv .1) in
-    let t = extend-room (x .args .a) p (x .args .at) (x .args .out .now) (o .k) (o .number) (o .end) (o .out) (c .before .before .before .before .before .before .before .before .before .before .before .before .pairs-test .taken) (o .inv .1) M S e f (y .0) (y .1 .0) in
+    let t = extend-room (x .args .a) p (x .args .at) (x .args .out .now) (o .k) (o .number) (o .end) (o .out) (omega (arith, c .before .before .before .before .before .before .before .before .before .before .before .before .pairs-test .taken, few-parties (x .pre .1 .0 .0) (x .args .a) (x .pre .1 .0 .1))) (o .inv .1) M S e f (y .0) (y .1 .0) in
     let u = build-same (x .args .a) p (x .args .at) (x .args .out .now) (o .k) (o .number) (o .end) (o .out) (o .inv .1) r in
     let v = build-few (x .args .a) p (x .args .at) (x .args .out .now) (o .k) (o .number) (o .end) (o .out) (o .inv .1) (few-words M (x .args .a) S p) in
     omega (arith, t, m, r)
 
 add-end-2 : tie.Need-add-end-2 Inv-loop μ-loop Inv-pairs μ-pairs
 add-end-2 c =
-    let x = c .before .before .before .before .before .before .before .before .before .before .before .before .before .before .before .before in
+    let x = c .before .before .before .before .before .before .before .before .before .before .before .before .before .before .before .before .before in
     let o = c .before .before .before .before .before .before .before .before .before .before .before .before .before .before .pairs in
     let M = x .pre .1 .0 .0 in
     let S = x .pre .1 .0 .1 in
@@ -262,14 +267,14 @@ add-end-2 c =
     let m : length (y .0) ≡ w .len = ap length (sym (y .1 .1)) ∙ n in
     let f = sym (all-had (c .before .before .before .before .before .before .before .before .before)) in
     let s = build-room (x .args .a) p (x .args .at) (x .args .out .now) (o .k) (o .number) (o .end) (o .out) (o .inv .1) in
-    let t = extend-room (x .args .a) p (x .args .at) (x .args .out .now) (o .k) (o .number) (o .end) (o .out) (c .before .before .before .before .before .before .before .before .before .before .before .before .before .pairs-test .taken) (o .inv .1) M S e f (y .0) (y .1 .0) in
+    let t = extend-room (x .args .a) p (x .args .at) (x .args .out .now) (o .k) (o .number) (o .end) (o .out) (omega (arith, c .before .before .before .before .before .before .before .before .before .before .before .before .before .pairs-test .taken, few-parties (x .pre .1 .0 .0) (x .args .a) (x .pre .1 .0 .1))) (o .inv .1) M S e f (y .0) (y .1 .0) in
     let u = build-same (x .args .a) p (x .args .at) (x .args .out .now) (o .k) (o .number) (o .end) (o .out) (o .inv .1) r in
     let v = build-few (x .args .a) p (x .args .at) (x .args .out .now) (o .k) (o .number) (o .end) (o .out) (o .inv .1) (few-words M (x .args .a) S p) in
     omega (arith, t, m, r)
 
 add-number : tie.Need-add-number Inv-loop μ-loop Inv-pairs μ-pairs
 add-number c =
-    let x = c .before .before .before .before .before .before .before .before .before .before .before .before .before .before .before .before in
+    let x = c .before .before .before .before .before .before .before .before .before .before .before .before .before .before .before .before .before in
     let o = c .before .before .before .before .before .before .before .before .before .before .before .before .before .before .pairs in
     let M = x .pre .1 .0 .0 in
     let S = x .pre .1 .0 .1 in
@@ -282,14 +287,15 @@ add-number c =
     let m : length (y .0) ≡ w .len = ap length (sym (y .1 .1)) ∙ n in
     let f = sym (all-had (c .before .before .before .before .before .before .before .before .before)) in
     let s = build-room (x .args .a) p (x .args .at) (x .args .out .now) (o .k) (o .number) (o .end) (o .out) (o .inv .1) in
-    let t = extend-room (x .args .a) p (x .args .at) (x .args .out .now) (o .k) (o .number) (o .end) (o .out) (c .before .before .before .before .before .before .before .before .before .before .before .before .before .pairs-test .taken) (o .inv .1) M S e f (y .0) (y .1 .0) in
+    let t = extend-room (x .args .a) p (x .args .at) (x .args .out .now) (o .k) (o .number) (o .end) (o .out) (omega (arith, c .before .before .before .before .before .before .before .before .before .before .before .before .before .pairs-test .taken, few-parties (x .pre .1 .0 .0) (x .args .a) (x .pre .1 .0 .1))) (o .inv .1) M S e f (y .0) (y .1 .0) in
     let u = build-same (x .args .a) p (x .args .at) (x .args .out .now) (o .k) (o .number) (o .end) (o .out) (o .inv .1) r in
     let v = build-few (x .args .a) p (x .args .at) (x .args .out .now) (o .k) (o .number) (o .end) (o .out) (o .inv .1) (few-words M (x .args .a) S p) in
     omega (arith, v, o .inv .1 .words)
 
 add-k-3 : tie.Need-add-k-3 Inv-loop μ-loop Inv-pairs μ-pairs
 add-k-3 c =
-    omega (arith, c .before .before .before .before .before .before .before .before .before .before .before .before .before .pairs-test .taken, c .before .before .before .before .before .before .before .before .before .before .loop .inv .0)
+    let x = c .before .before .before .before .before .before .before .before .before .before .before .before .before .before .before .before .before in
+    omega (arith, c .before .before .before .before .before .before .before .before .before .before .before .before .before .pairs-test .taken, c .before .before .before .before .before .before .before .before .before .before .loop .inv .0, few-parties (x .pre .1 .0 .0) (x .args .a) (x .pre .1 .0 .1))
 
 pairs-less-3 : tie.Need-pairs-less-3 Inv-loop μ-loop Inv-pairs μ-pairs
 pairs-less-3 c =
@@ -297,7 +303,7 @@ pairs-less-3 c =
 
 pairs-again-3 : tie.Need-pairs-again-3 Inv-loop μ-loop Inv-pairs μ-pairs
 pairs-again-3 c =
-    let x = c .before .before .before .before .before .before .before .before .before .before .before .before .before .before .before .before in
+    let x = c .before .before .before .before .before .before .before .before .before .before .before .before .before .before .before .before .before in
     let o = c .before .before .before .before .before .before .before .before .before .before .before .before .before .before .pairs in
     let M = x .pre .1 .0 .0 in
     let S = x .pre .1 .0 .1 in
@@ -310,17 +316,17 @@ pairs-again-3 c =
     let m : length (y .0) ≡ w .len = ap length (sym (y .1 .1)) ∙ n in
     let f = sym (all-had (c .before .before .before .before .before .before .before .before .before)) in
     let s = build-room (x .args .a) p (x .args .at) (x .args .out .now) (o .k) (o .number) (o .end) (o .out) (o .inv .1) in
-    let t = extend-room (x .args .a) p (x .args .at) (x .args .out .now) (o .k) (o .number) (o .end) (o .out) (c .before .before .before .before .before .before .before .before .before .before .before .before .before .pairs-test .taken) (o .inv .1) M S e f (y .0) (y .1 .0) in
+    let t = extend-room (x .args .a) p (x .args .at) (x .args .out .now) (o .k) (o .number) (o .end) (o .out) (omega (arith, c .before .before .before .before .before .before .before .before .before .before .before .before .before .pairs-test .taken, few-parties (x .pre .1 .0 .0) (x .args .a) (x .pre .1 .0 .1))) (o .inv .1) M S e f (y .0) (y .1 .0) in
     let u = build-same (x .args .a) p (x .args .at) (x .args .out .now) (o .k) (o .number) (o .end) (o .out) (o .inv .1) r in
     let v = build-few (x .args .a) p (x .args .at) (x .args .out .now) (o .k) (o .number) (o .end) (o .out) (o .inv .1) (few-words M (x .args .a) S p) in
     let l = c .before .before .before .before .before .before .before .before .before .before .loop in
     let q = o .inv .1 .term in
     let z : c .before .before .before .add-word .last .0 ≡ put (x .args .out .now) (x .args .at) (encodeTerm (plainTerm q ++ (y .0 ∷ []))) = c .before .before .before .add-word .ensures (x .args .out .now) (plainTerm q) (length-map (λ i. i .word) q ∙ sym (o .inv .1 .words)) (o .inv .1 .ends) (o .inv .1 .bytes) (sym u) ∙ ap (λ (i : List ℕ). put (x .args .out .now) (x .args .at) (encodeTerm (plainTerm q ++ (i ∷ [])))) (y .1 .1) in
-    (omega (arith, c .before .before .before .before .before .before .before .before .before .before .before .before .before .pairs-test .taken, l .inv .0), rw (l .inv .0, ← m, z) (extend-more (x .args .a) p (x .args .at) (x .args .out .now) (o .k) (o .number) (o .end) (o .out) (c .before .before .before .before .before .before .before .before .before .before .before .before .before .pairs-test .taken) (o .inv .1) M S e f (y .0) (y .1 .0)))
+    (omega (arith, c .before .before .before .before .before .before .before .before .before .before .before .before .before .pairs-test .taken, l .inv .0), rw (l .inv .0, ← m, z) (extend-more (x .args .a) p (x .args .at) (x .args .out .now) (o .k) (o .number) (o .end) (o .out) (omega (arith, c .before .before .before .before .before .before .before .before .before .before .before .before .before .pairs-test .taken, few-parties (x .pre .1 .0 .0) (x .args .a) (x .pre .1 .0 .1))) (o .inv .1) M S e f (y .0) (y .1 .0)))
 
 same-length-2 : tie.Need-same-length-2 Inv-loop μ-loop Inv-pairs μ-pairs
 same-length-2 c =
-    let x = c .before .before .before in
+    let x = c .before .before .before .before in
     let o = c .before .pairs in
     let M = x .pre .1 .0 .0 in
     let S = x .pre .1 .0 .1 in
@@ -330,14 +336,13 @@ same-length-2 c =
 
 returns-2 : tie.Need-returns-2 Inv-loop μ-loop Inv-pairs μ-pairs
 returns-2 c =
-    let x = c .before .before .before in
+    let x = c .before .before .before .before in
     let o = c .before .pairs in
     let M = x .pre .1 .0 .0 in
     let S = x .pre .1 .0 .1 in
     let p : Pair = pair (x .args .first) (x .args .second) in
     let r : x .args .at + length (termBytes (x .args .a) p) ≤ length (x .args .out .now) = x .pre .1 .1 .1 .1 .0 in
-    let k : o .k ≡ 1024 = omega (arith, c .pairs-test .left, o .inv .0) in
-    build-end (x .args .a) p (x .args .at) (x .args .out .now) (o .number) (o .end) (o .out) (x .pre .1 .1 .0) (rw k at (o .inv .1))
+    build-end (x .args .a) p (x .args .at) (x .args .out .now) (o .k) (o .number) (o .end) (o .out) (omega (arith, c .pairs-test .left)) (x .pre .1 .1 .0) (o .inv .1)
 
 pub extend-term-spec : {M : Type 1} → statement M
 extend-term-spec =
@@ -347,6 +352,7 @@ extend-term-spec =
     μ-loop
     Inv-pairs
     μ-pairs
+    mul-count
     pairs-holds
     unpermitted-requires
     add-k
