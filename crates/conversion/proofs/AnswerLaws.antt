@@ -1,56 +1,33 @@
 -- What the two calls answer for a matter, by the outcome of their tests; an archive's list and verdict are its matter's.
 use mathlib.Core.Path.{_≡_, refl, sym, ap, _∙_}
 use mathlib.Core.Bool.{Bool, true, false, _&&_}
-use mathlib.Core.List.{List, map}
+use mathlib.Core.List.{List}
 use Prim.Native.Nat.{ℕ, _/_, _%_, _≤_, _<_}
 use lib.ListN.{length}
 use lib.Dec.{leb}
 use borrow.Author.Tests.{le-leb, lt-leb}
-use Rattle.lists.specs.Lists.{range}
-use Rattle.lists.proofs.Cases.{clash}
 use Rattle.masks.specs.declared.Row.{Row}
 use Rattle.rebac.specs.Matter.{Matter, Pair, pair}
 use Rattle.rebac.specs.Words.{Word}
 use Rattle.rebac.specs.Rules.{Problem, permits}
-use Rattle.rebac.specs.Verdict.{Verdict, convertible, noWord, rivalled, verdict, isConvertible}
+use Rattle.rebac.specs.Verdict.{convertible, verdict, isConvertible}
 use Rattle.rebac.specs.Mining.{mine}
-use Rattle.rebac.specs.Existence.{problemOf, verdictOf, minedList, plainList, permitsPair}
+use Rattle.rebac.specs.Existence.{problemOf, verdictOf, minedList, permitsPair}
 use Rattle.rebac.proofs.Conversion.{permits-one, mined-ones}
 use Rattle.house_file.specs.declared.reply.Refusal.the-variants.{Scratch, Inconvertible}
 use Rattle.house_file.specs.declared.reply.Refusal.{Refusal}
 use Rattle.graph.specs.declared.Archive.{Archive}
 use Rattle.graph.specs.Archive.{Shows}
 use Rattle.graph.specs.Legal.{isPair}
-use Rattle.rules.specs.ListBytes.{encodeList}
 use Rattle.mining.specs.Building.{problemIn}
 use Rattle.mining.specs.Taking.{Marks}
 use Rattle.mining.specs.declared.build.Pair.{Pair as PairValue}
 use Rattle.mining.proofs.ArchiveLaws.{problem-shown}
-use Rattle.conversion.specs.Calls.{listOf, bytesOf, replyOf, verdictIn, oneIf, tableOf, Answer, refuses, tooShort, writes, miningIn}
+use Rattle.conversion.specs.Calls.{listOf, bytesOf, replyOf, verdictIn, tableOf, refuses, tooShort, writes, miningIn}
 use Rattle.conversion.specs.Passes.{archiveBytes, archiveVerdict, rowBytes}
 use Rattle.conversion.specs.declared.verdict.VerdictReply.the-variants.{Refused, Convertible, NoWord, Rival}
 use Rattle.conversion.proofs.TableLaws.{marks-bytes}
-
--- what a reply says of the verdict
-reply-convertible : (size k : ℕ) (v : Verdict Pair) → Convertible k ≡ replyOf size v → (v ≡ convertible) × (k ≡ size)
-reply-convertible size k convertible e = (refl, cc e)
-reply-convertible size k (noWord p) e = clash (cc e)
-reply-convertible size k (rivalled p q) e = clash (cc e)
-
-reply-refused : {G : Type 0} (size : ℕ) (x : Refusal) (v : Verdict Pair) → Refused x ≡ replyOf size v → G
-reply-refused size x convertible e = clash (cc e)
-reply-refused size x (noWord p) e = clash (cc e)
-reply-refused size x (rivalled p q) e = clash (cc e)
-
-reply-no-word : (S : Problem Pair Word) (size : ℕ) (p : PairValue) (v : Verdict Pair) → NoWord p ≡ replyOf size v → isConvertible S v ≡ false
-reply-no-word S size p convertible e = clash (cc e)
-reply-no-word S size p (noWord x) e = refl
-reply-no-word S size p (rivalled x q) e = refl
-
-reply-rival : (S : Problem Pair Word) (size : ℕ) (p r : PairValue) (v : Verdict Pair) → Rival p r ≡ replyOf size v → isConvertible S v ≡ false
-reply-rival S size p r convertible e = clash (cc e)
-reply-rival S size p r (noWord x) e = refl
-reply-rival S size p r (rivalled x q) e = refl
+use Rattle.conversion.proofs.ReplyLaws.{reply-convertible, reply-no-word, reply-rival, reply-refused}
 
 module _ (M : Matter) (a : Archive) (h : Shows M a) where
   pub bytes-shown : archiveBytes a ≡ bytesOf M
@@ -87,34 +64,34 @@ module _ (M : Matter) (a : Archive) (h : Shows M a) where
 
       pub mining-no-word : (p : PairValue) → NoWord p ≡ archiveVerdict a → miningIn M scratch output ≡ refuses Inconvertible
       unfolding verdictIn
-      mining-no-word p e = mining-inconvertible (reply-no-word (problemOf M) (length (bytesOf M)) p (verdictOf M) (e ∙ verdict-shown))
+      mining-no-word p e = mining-inconvertible (rw (reply-no-word (length (bytesOf M)) p (verdictOf M) (sym (e ∙ verdict-shown))) refl)
 
       pub mining-rival : (p q : PairValue) → Rival p q ≡ archiveVerdict a → miningIn M scratch output ≡ refuses Inconvertible
       unfolding verdictIn
-      mining-rival p q e = mining-inconvertible (reply-rival (problemOf M) (length (bytesOf M)) p q (verdictOf M) (e ∙ verdict-shown))
+      mining-rival p q e = mining-inconvertible (rw (reply-rival (length (bytesOf M)) p q (verdictOf M) (sym (e ∙ verdict-shown))) refl)
 
       module _ (size : ℕ) (e : Convertible size ≡ archiveVerdict a) where
-        told : (verdictOf M ≡ convertible) × (size ≡ length (bytesOf M))
+        told : (verdictOf M ≡ convertible) × (length (bytesOf M) ≡ size)
         unfolding verdictIn
-        told = reply-convertible (length (bytesOf M)) size (verdictOf M) (e ∙ verdict-shown)
+        told = reply-convertible (length (bytesOf M)) size (verdictOf M) (sym (e ∙ verdict-shown))
 
         pub mining-short : output < size → miningIn M scratch output ≡ tooShort
         unfolding miningIn
-        mining-short o = rw (enough-scratch, told .0, lt-leb (length (bytesOf M)) output (rw (told .1) at o)) refl
+        mining-short o = rw (enough-scratch, told .0, lt-leb (length (bytesOf M)) output (rw (← told .1) at o)) refl
 
         pub mining-writes : size ≤ output → miningIn M scratch output ≡ writes (tableOf M) (bytesOf M)
         unfolding miningIn
-        mining-writes o = rw (enough-scratch, told .0, le-leb (length (bytesOf M)) output (rw (told .1) at o)) refl
+        mining-writes o = rw (enough-scratch, told .0, le-leb (length (bytesOf M)) output (rw (← told .1) at o)) refl
 
         pub mining-size : size ≡ length (bytesOf M)
-        mining-size = told .1
+        mining-size = sym (told .1)
 
         -- what writing the list asks for
         pub mining-asks : size ≤ output → (verdict (problemIn a) ≡ convertible) × (length (archiveBytes a) ≤ output)
         unfolding verdictOf
-        mining-asks o = (rw (problem-shown M a h) (told .0), rw (bytes-shown, ← told .1) o)
+        mining-asks o = (rw (problem-shown M a h) (told .0), rw (bytes-shown, told .1) o)
 
 -- no verdict of an archive is a refusal
 pub never-refused : {G : Type 0} (a : Archive) (x : Refusal) → Refused x ≡ archiveVerdict a → G
 unfolding archiveVerdict
-never-refused a x e = reply-refused (length (archiveBytes a)) x (verdict (problemIn a)) e
+never-refused a x e = reply-refused (length (archiveBytes a)) x (verdict (problemIn a)) (sym e)

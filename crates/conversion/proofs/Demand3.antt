@@ -44,33 +44,17 @@ use Rattle.rules.specs.Reading.{wordOf}
 use Rattle.rules.specs.ListBytes.{encodeCount, encodeWord, encodeTerm, encodeList}
 use Rattle.rules.specs.Permit.{permitReply, yesOrNo}
 use Rattle.rules.proofs.MatterLists.{legal-symbol, permit-of-mined}
-use Rattle.mining.specs.Building.{named}
 use Rattle.mining.specs.declared.build.Pair.{Pair as PairValue}
 use Rattle.conversion.specs.declared.verdict.VerdictReply.the-variants as reply
 use Rattle.conversion.specs.Calls.{listOf, bytesOf, replyOf, verdictIn, verdictCall, oneIf, tableOf, miningIn, miningCall, tooShort, writes as writesList}
 use Rattle.conversion.specs.declared.mine.MiningReply.the-variants.{Wrote}
+use Rattle.conversion.proofs.ReplyLaws.{reply-convertible, reply-no-word, reply-rival}
 use Rattle.conversion.specs.Demands.{pairIn, Carries, HasWord, Wordless, IsRival, Hinders, FirstPair, ShowsPath, MinesList}
 
 -- by the check's reply
 pub by-check : {G : Type 0} (c : Check) → (c ≡ Accepted → G) → ((x : Refusal) → c ≡ Refused x → G) → G
 by-check Accepted g h = g refl
 by-check (Refused x) g h = h x refl
-
--- what a reply says of the verdict
-reply-convertible : (size k : ℕ) (v : Verdict Pair) → replyOf size v ≡ reply.Convertible k → (v ≡ convertible) × (size ≡ k)
-reply-convertible size k convertible e = (refl, cc)
-reply-convertible size k (noWord p) e = clash (cc e)
-reply-convertible size k (rivalled p q) e = clash (cc e)
-
-reply-no-word : (size : ℕ) (x : PairValue) (v : Verdict Pair) → replyOf size v ≡ reply.NoWord x → v ≡ noWord (pairIn x)
-reply-no-word size x convertible e = clash (cc e)
-reply-no-word size x (noWord p) e = let z : named p ≡ x = cc in rw (← z)
-reply-no-word size x (rivalled p q) e = clash (cc e)
-
-reply-rival : (size : ℕ) (x y : PairValue) (v : Verdict Pair) → replyOf size v ≡ reply.Rival x y → v ≡ rivalled (pairIn x) (pairIn y)
-reply-rival size x y convertible e = clash (cc e)
-reply-rival size x y (noWord p) e = clash (cc e)
-reply-rival size x y (rivalled p q) e = let a : named p ≡ x = cc in let b : named q ≡ y = cc in rw (← a, ← b)
 
 -- the first of the pairs that passes a test comes before every other that does
 ascending-after : {A : Type 0} (R : A → A → Bool) (l m : List A) (x y : A) → Ascending R (l ++ (x ∷ m)) → List·Memᴰ y m → R x y ≡ true

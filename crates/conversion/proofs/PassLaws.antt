@@ -1,17 +1,16 @@
 -- Going through the pairs by number: the list so far and the pairs left give the definition's list and verdict.
 use mathlib.Core.Path.{_≡_, refl, sym, ap, _∙_}
-use mathlib.Core.Bool.{Bool, true, false, not, _&&_}
-use mathlib.Core.List.{List, [], _∷_, _++_, List·Memᴰ, List·Memᴰ·head, List·Memᴰ·tail, append-assoc}
+use mathlib.Core.Bool.{true, false, not, _&&_}
+use mathlib.Core.List.{List, [], _∷_, _++_, List·Memᴰ, List·Memᴰ·head, List·Memᴰ·tail}
 use mathlib.Core.Option.{Option, none, some}
-use Prim.Native.Nat.{ℕ, suc, _+_, _*_, _/_, _%_, _≤_, _<_}
+use Prim.Native.Nat.{ℕ, _+_, _*_, _/_, _%_, _≤_, _<_}
 use native.Mathlib.Omega.{arith}
-use lib.ListN.{length, take, drop, length-append}
+use lib.ListN.{length, length-append}
 use Rattle.lists.specs.Lists.{anyOf, firstBy, flatMap}
 use Rattle.lists.specs.Order.{sumOf}
-use Rattle.lists.proofs.Cases.{by-test, both, clash, and-left, and-right, and-false}
+use Rattle.lists.proofs.Cases.{by-test, clash, and-left, and-right, and-false}
 use Rattle.lists.proofs.OrderLaws.{length-map}
 use Rattle.lists.proofs.Pointwise.{map-append}
-use Rattle.masks.specs.Mask.{testBit}
 use Rattle.masks.specs.Table.{maskIn}
 use Rattle.masks.specs.declared.Row.{Row}
 use Rattle.masks.proofs.MaskLaws.{zero-bit}
@@ -20,7 +19,7 @@ use Rattle.rebac.specs.Words.{Word}
 use Rattle.rebac.specs.Rules.{Problem, Term, RuleList, permits}
 use Rattle.rebac.specs.Verdict.{Verdict, convertible, noWord, rivalled, wordsOf, ruling, rival, judge, verdict}
 use Rattle.rebac.specs.Mining.{termOf, mineFrom, mine}
-use Rattle.rebac.specs.WhileMining.{judgeFrom, passing, verdictFrom}
+use Rattle.rebac.specs.WhileMining.{passing, verdictFrom}
 use Rattle.rebac.specs.Existence.{plainTerm, plainList}
 use Rattle.rebac.proofs.PairsLaws.{pairs-in}
 use Rattle.rebac.proofs.MiningLaws.{term-owned}
@@ -32,9 +31,7 @@ use Rattle.graph.specs.Legal.{isPair}
 use Rattle.paths.proofs.CallLaws.{pair-of}
 use Rattle.rules.specs.ListBytes.{encodeCount, encodeWord, encodeTerm, encodeList}
 use Rattle.rules.specs.Reading.{FitWord}
-use Rattle.rules.specs.Writing.{put}
 use Rattle.rules.proofs.RoundTrip.{count-size, term-size, word-size, terms-more}
-use Rattle.rules.proofs.PutLaws.{put-put, put-before, put-length}
 use Rattle.mining.specs.Pairs.{pairAt, isPairAt, pairsFrom}
 use Rattle.mining.specs.Building.{problemIn, named, bytesOf, termBytes}
 use Rattle.mining.specs.Taking.{Marks, due, JudgedAs}
@@ -43,8 +40,7 @@ use Rattle.mining.specs.declared.take.Judgment.the-variants.{Fit, Wordless, Riv
 use Rattle.mining.specs.declared.build.Pair.{Pair as PairValue}
 use Rattle.mining.proofs.GridLaws.{pairs-numbered, pairs-skip, pairs-take, pairs-end}
 use Rattle.mining.proofs.ArchiveLaws.{problem-pairs, few-words, owned-fits}
-use Rattle.mining.proofs.FirstLaws.{term-least}
-use Rattle.conversion.specs.Passes.{archiveBytes, archiveVerdict}
+use Rattle.conversion.specs.Passes.{archiveBytes}
 
 -- one pair of the definitions' lists
 module _ {P W : Type 0} (S : Problem P W) (r : RuleList W) (p : P) (ps : List P) where

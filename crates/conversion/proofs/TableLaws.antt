@@ -1,10 +1,10 @@
 -- The bytes of a row of masks one after another, and which they are for the marks of a list.
 use mathlib.Core.Path.{_≡_, refl, sym, ap, _∙_}
-use mathlib.Core.Bool.{Bool, false, _&&_}
-use mathlib.Core.List.{List, [], _∷_, _++_, map, List·Memᴰ}
-use Prim.Native.Nat.{ℕ, zero, suc, _+_, _/_, _%_, _≤_, _<_}
+use mathlib.Core.Bool.{Bool}
+use mathlib.Core.List.{List, [], _∷_, _++_, map}
+use Prim.Native.Nat.{ℕ, zero, suc, _+_, _/_, _%_, _<_}
 use native.Mathlib.Omega.{arith}
-use lib.ListN.{length, drop, set, replicate, length-replicate}
+use lib.ListN.{length, drop, set, replicate}
 use Rattle.lists.specs.Lists.{range, upFrom}
 use Rattle.lists.proofs.OrderLaws.{length-map}
 use Rattle.lists.proofs.Pointwise.{up-append, map-same, map-append}

@@ -11,7 +11,7 @@ use Rattle.masks.specs.declared.Row.{Row}
 use Rattle.rebac.specs.Matter.{Matter}
 use Rattle.rebac.specs.Words.{Word}
 use Rattle.rebac.specs.Rules.{RuleList}
-use Rattle.rebac.specs.Verdict.{Verdict, convertible, judge, verdict}
+use Rattle.rebac.specs.Verdict.{convertible, judge, verdict}
 use Rattle.rebac.specs.Mining.{termOf, mine}
 use Rattle.rebac.specs.Existence.{plainList}
 use Rattle.graph.specs.declared.Archive.{Archive}
@@ -26,7 +26,7 @@ use Rattle.mining.specs.Taking.{due, JudgedAs}
 use Rattle.mining.specs.declared.take.Taken.{Taken}
 use Rattle.conversion.specs.Passes.{archiveBytes}
 use Rattle.conversion.proofs.TableLaws.{put-first}
-use Rattle.conversion.proofs.PassLaws.{Passing, termsOf, terms-add, list-bytes, list-length, pass-start, pass-over, pass-term, pass-room, pass-fit, pass-size, pass-end}
+use Rattle.conversion.proofs.PassLaws.{Passing, termsOf, terms-add, list-bytes, list-length, pass-start, pass-over, pass-term, pass-fit, pass-size, pass-end}
 
 pub record Writing (a : Archive) (old out : List ℕ) (list : RuleList Word) (row : Row) (number end k : ℕ) : Type 0 where
   pub pass : Passing a list row end k

@@ -1,7 +1,7 @@
 // Mining: the list into the lent output, the pairs that it permits into scratch.
 ghost use mathlib.Core.Path.{_≡_};
 ghost use mathlib.Core.List.{_++_};
-ghost use Prim.Native.Nat.{ℕ, _≤_};
+ghost use Prim.Native.Nat.{_≤_};
 ghost use lib.ListN.{length, drop};
 ghost use Rattle.rebac.specs.Matter.{Matter};
 ghost use Rattle.rebac.specs.Verdict.{verdict, convertible};

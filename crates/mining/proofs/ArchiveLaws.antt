@@ -1,11 +1,10 @@
 -- An archive's conversion is its matter's, so a term of a pair's own words is met where a pair has the words, and its words fit.
 use mathlib.Core.Path.{_≡_, refl, sym, ap, _∙_}
-use mathlib.Core.Bool.{Bool, true}
-use mathlib.Core.List.{List, List·Memᴰ}
-use Prim.Native.Nat.{ℕ, suc, _+_, _*_, _-_, _≤_, _<_}
+use mathlib.Core.List.{List·Memᴰ}
+use Prim.Native.Nat.{ℕ, _*_, _-_, _≤_}
 use native.Mathlib.Omega.{arith}
 use native.Mathlib.Nat.{mul-le-mul}
-use lib.ListN.{length, getD}
+use lib.ListN.{length}
 use Rattle.lists.specs.Lists.{allOf, firstBy}
 use Rattle.lists.proofs.ListLaws.{map-out}
 use Rattle.lists.proofs.OrderLaws.{length-map}
@@ -14,7 +13,6 @@ use Rattle.masks.specs.Table.{maskIn}
 use Rattle.rebac.specs.Matter.{Matter, Pair, pairsOf, permitted}
 use Rattle.rebac.specs.Words.{Word}
 use Rattle.rebac.specs.Paths.{has, Graph}
-use Rattle.rebac.specs.Symbols.{enlarged}
 use Rattle.rebac.specs.Rules.{Problem, Item, Term, meets}
 use Rattle.rebac.specs.Verdict.{wordsOf}
 use Rattle.rebac.specs.Mining.{own, lacks, termOf}

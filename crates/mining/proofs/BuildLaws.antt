@@ -1,9 +1,9 @@
 -- Building a pair's term against the pairs from number k on: what is left to do is what the definition does, and the bytes so far are the term so far.
 use mathlib.Core.Path.{_≡_, refl, sym, ap, _∙_}
-use mathlib.Core.Bool.{Bool, true, false, not, _&&_}
-use mathlib.Core.List.{List, [], _∷_, _++_, map, List·Memᴰ, List·Memᴰ·head}
-use mathlib.Core.Option.{Option, none, some}
-use Prim.Native.Nat.{ℕ, suc, _+_, _*_, _/_, _%_, _≤_, _<_}
+use mathlib.Core.Bool.{true, false, not, _&&_}
+use mathlib.Core.List.{List, [], _∷_, _++_}
+use mathlib.Core.Option.{none, some}
+use Prim.Native.Nat.{ℕ, _+_, _*_, _/_, _%_, _≤_, _<_}
 use native.Mathlib.Omega.{arith}
 use lib.ListN.{length, take, drop, length-append}
 use lib.Seq.{drop-at, length-take-le}
@@ -11,13 +11,14 @@ use Rattle.lists.specs.Lists.{allOf, firstBy, flatMap}
 use Rattle.lists.proofs.Cases.{by-test, and-left, and-right}
 use Rattle.lists.proofs.ListLaws.{find-in}
 use Rattle.lists.proofs.OrderLaws.{length-map}
+use Rattle.lists.proofs.Pointwise.{map-append}
 use Rattle.masks.specs.Mask.{testBit}
 use Rattle.masks.specs.Table.{maskIn}
 use Rattle.rebac.specs.Matter.{Matter, Pair, pair}
 use Rattle.rebac.specs.Words.{Word}
 use Rattle.rebac.specs.Paths.{has}
 use Rattle.rebac.specs.Rules.{Problem, Item, Term, meets}
-use Rattle.rebac.specs.Verdict.{convertible, noWord, rivalled, wordsOf, ruling, judge}
+use Rattle.rebac.specs.Verdict.{convertible, rivalled, wordsOf, ruling, judge}
 use Rattle.rebac.specs.Mining.{own, lacks, addAgainst, addAll, begin, termOf}
 use Rattle.rebac.specs.WhileMining.{rivalFrom, judgeFrom}
 use Rattle.rebac.specs.Existence.{plainTerm}
@@ -25,7 +26,6 @@ use Rattle.rebac.proofs.MiningLaws.{Owned, add-all, owned-more, begin-owned}
 use Rattle.rebac.proofs.WhileMining.{judge-from}
 use Rattle.graph.specs.declared.Archive.{Archive}
 use Rattle.graph.specs.Archive.{Shows}
-use Rattle.graph.specs.Legal.{isPair}
 use Rattle.paths.specs.Ask.{tableGraph}
 use Rattle.rules.specs.ListBytes.{encodeCount, encodeWord, encodeTerm}
 use Rattle.rules.specs.Writing.{put}
@@ -36,9 +36,9 @@ use Rattle.rules.proofs.PlaceLaws.{term-ahead}
 use Rattle.house_file.specs.Layout.{u16At}
 use Rattle.mining.specs.Pairs.{pairAt, isPairAt, pairsFrom}
 use Rattle.mining.specs.Building.{problemIn, named, bytesOf, firstBytes, termBytes, BuiltAs}
-use Rattle.mining.specs.declared.build.Built.the-variants.{NoWord, Rival, Term as TermTo}
+use Rattle.mining.specs.declared.build.Built.the-variants.{Rival, Term as TermTo}
 use Rattle.mining.proofs.GridLaws.{pairs-numbered, pairs-skip, pairs-take, pairs-end}
-use Rattle.mining.proofs.ArchiveLaws.{problem-pairs, problem-permitted, owned-met, few-words, few-parties, owned-fits}
+use Rattle.mining.proofs.ArchiveLaws.{problem-pairs, problem-permitted, owned-met, few-words, owned-fits}
 
 -- one pair q against the term so far
 module _ {P W : Type 0} (S : Problem P W) (p : P) (t : Term W) (q : P) (qs : List P) where
@@ -85,8 +85,7 @@ begin-length S p (w ∷ ws) h = refl
 
 -- sizes
 plain-more : (t : Term Word) (i : Item Word) → plainTerm (t ++ (i ∷ [])) ≡ plainTerm t ++ (i .word ∷ [])
-plain-more [] i = refl
-plain-more (j ∷ t) i = rw (plain-more t i) refl
+plain-more t i = map-append (λ j. j .word) t (i ∷ [])
 
 pub size-more : (t : Term Word) (i : Item Word) → length (bytesOf (t ++ (i ∷ []))) ≡ length (bytesOf t) + 1 + length (i .word)
 unfolding encodeTerm

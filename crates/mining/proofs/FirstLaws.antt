@@ -10,10 +10,8 @@ use Rattle.lists.specs.Order.{headOf, sumOf}
 use Rattle.lists.proofs.Cases.{clash}
 use Rattle.rebac.specs.Matter.{Matter, Pair}
 use Rattle.rebac.specs.Words.{Word}
-use Rattle.rebac.specs.Rules.{Term}
-use Rattle.rebac.specs.Verdict.{Verdict, convertible, noWord, rivalled, wordsOf, ruling, judge}
+use Rattle.rebac.specs.Verdict.{Verdict, convertible, noWord, rivalled, wordsOf, judge}
 use Rattle.rebac.specs.Mining.{begin, termOf}
-use Rattle.rebac.specs.Existence.{problemOf, plainTerm}
 use Rattle.rebac.specs.NextWord.{pairWords, nextWord}
 use Rattle.rebac.proofs.NextWordLaws.{first-word}
 use Rattle.graph.specs.declared.Archive.{Archive}
@@ -22,9 +20,8 @@ use Rattle.rules.specs.ListBytes.{encodeCount, encodeTerm}
 use Rattle.rules.specs.Writing.{put}
 use Rattle.rules.proofs.RoundTrip.{term-size, word-size}
 use Rattle.rules.proofs.PutLaws.{put-over}
-use Rattle.mining.specs.Building.{problemIn, bytesOf, firstBytes, termBytes, BuiltAs}
+use Rattle.mining.specs.Building.{problemIn, firstBytes, termBytes, BuiltAs}
 use Rattle.mining.specs.declared.build.Built.{Built}
-use Rattle.mining.specs.declared.build.Built.the-variants.{NoWord}
 use Rattle.mining.proofs.ArchiveLaws.{problem-shown}
 use Rattle.mining.proofs.BuildLaws.{size-grows, size-least}
 

@@ -1,12 +1,12 @@
 -- The pairs by number are the pairs in order: both lists ascend and have the same members.
-use mathlib.Core.Path.{_≡_, refl, sym, ap, _∙_}
-use mathlib.Core.Logic.{⊎-elim, by-cases}
-use mathlib.Core.Bool.{true, false, _&&_, _||_}
-use mathlib.Core.List.{List, [], _∷_, map, List·Memᴰ}
-use Prim.Native.Nat.{ℕ, zero, suc, _+_, _*_, _-_, _/_, _%_, _≤_, _<_}
+use mathlib.Core.Path.{_≡_, refl}
+use mathlib.Core.Logic.{by-cases}
+use mathlib.Core.Bool.{true, false}
+use mathlib.Core.List.{[], _∷_, List·Memᴰ}
+use Prim.Native.Nat.{ℕ, suc, _+_, _*_, _-_, _/_, _%_, _≤_, _<_}
 use native.Mathlib.Omega.{arith}
 use native.Mathlib.Decide.{decLt}
-use lib.Dec.{eqb, ltb}
+use lib.Dec.{ltb}
 use borrow.Author.Tests.{lt-ltb, le-ltb, ne-eqb, ltb-true}
 use Rattle.lists.specs.Lists.{filterBy, upFrom}
 use Rattle.lists.specs.Order.{Ascending}

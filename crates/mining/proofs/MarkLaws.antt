@@ -1,14 +1,14 @@
 -- Marks set pair by pair: before number k they are those of the pairs that pass, from k on the old ones.
 use mathlib.Core.Path.{_≡_, refl, sym, ap, _∙_}
-use mathlib.Core.Logic.{by-cases, ⊎-elim, _⊎_}
+use mathlib.Core.Logic.{by-cases}
 use mathlib.Core.Bool.{Bool, true, false, not, _&&_, _||_}
-use mathlib.Core.List.{List, [], _∷_, _++_}
-use Prim.Native.Nat.{ℕ, _+_, _*_, _/_, _%_, _≤_, _<_}
+use mathlib.Core.List.{[], _∷_, _++_}
+use Prim.Native.Nat.{ℕ, _+_, _*_, _/_, _%_, _≤_}
 use native.Mathlib.Omega.{arith}
 use native.Mathlib.Decide.{ℕ-discrete}
 use lib.Dec.{ltb}
 use borrow.Author.Tests.{lt-ltb, le-ltb, ltb-true, ltb-false}
-use Rattle.lists.specs.Lists.{allOf, anyOf}
+use Rattle.lists.specs.Lists.{anyOf}
 use Rattle.lists.proofs.Cases.{by-test, both, or-true}
 use Rattle.lists.proofs.ListLaws.{any-append, any-one}
 use Rattle.masks.specs.Mask.{testBit, withBit}
@@ -17,7 +17,7 @@ use Rattle.masks.specs.declared.Row.{Row}
 use Rattle.masks.proofs.BitLaws.{test-with-same, test-with-other}
 use Rattle.rebac.specs.Matter.{Matter, Pair, pair}
 use Rattle.rebac.specs.Words.{Word}
-use Rattle.rebac.specs.Rules.{Term, RuleList, meets, permits}
+use Rattle.rebac.specs.Rules.{RuleList, meets, permits}
 use Rattle.rebac.specs.Mining.{termOf}
 use Rattle.rebac.specs.Existence.{plainTerm}
 use Rattle.rebac.proofs.MiningLaws.{term-owned}

@@ -1,9 +1,8 @@
 -- A pair taken in turn: the test of a due pair, and what building says in each of its three outcomes.
-use mathlib.Core.Path.{_≡_, refl, sym, ap, _∙_}
+use mathlib.Core.Path.{_≡_, refl, ap, _∙_}
 use mathlib.Core.Bool.{Bool, true, false, not, _&&_}
 use mathlib.Core.List.{List, [], _∷_, _++_}
 use Prim.Native.Nat.{ℕ, _+_, _/_, _%_, _≤_}
-use native.Mathlib.Omega.{arith}
 use lib.ListN.{length, drop}
 use Rattle.lists.proofs.Cases.{by-test, clash, and-left}
 use Rattle.masks.specs.Mask.{testBit}
@@ -18,7 +17,6 @@ use Rattle.rebac.specs.Existence.{plainTerm}
 use Rattle.rebac.proofs.MiningLaws.{term-owned}
 use Rattle.graph.specs.declared.Archive.{Archive}
 use Rattle.graph.specs.Archive.{Shows}
-use Rattle.graph.specs.Legal.{isPair}
 use Rattle.paths.proofs.CallLaws.{pair-of}
 use Rattle.rules.specs.Reading.{TermAt}
 use Rattle.rules.specs.Writing.{put}

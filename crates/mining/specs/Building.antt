@@ -1,7 +1,6 @@
 -- A pair's term built in a lent slice, and what stops it: no word, or a rival.
 use Prim.Native.Nat.{ℕ, _+_}
 use mathlib.Core.Path.{_≡_}
-use mathlib.Core.Bool.{Bool, not, _&&_}
 use mathlib.Core.List.{List}
 use lib.ListN.{length}
 use Rattle.masks.specs.Mask.{testBit}

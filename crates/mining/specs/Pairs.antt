@@ -1,5 +1,5 @@
 -- The pairs by number, as 01 numbers scratch: byte 32a + b is for the pair (a, b).
-use Prim.Native.Nat.{ℕ, _+_, _*_, _-_, _/_, _%_}
+use Prim.Native.Nat.{ℕ, _+_, _-_, _/_, _%_}
 use mathlib.Core.Bool.{Bool}
 use mathlib.Core.List.{List, map}
 use Rattle.lists.specs.Lists.{filterBy, upFrom}

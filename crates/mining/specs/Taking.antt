@@ -1,7 +1,7 @@
 -- One due pair taken in turn: judged and given its term. What the verdict and mining do with each pair.
 use Prim.Native.Nat.{ℕ, _+_, _≤_, _/_, _%_}
 use mathlib.Core.Path.{_≡_}
-use mathlib.Core.Bool.{Bool, true, false, not, _&&_}
+use mathlib.Core.Bool.{Bool, true, not, _&&_}
 use mathlib.Core.List.{List, [], _∷_, _++_}
 use lib.ListN.{length}
 use Rattle.masks.specs.Mask.{testBit}
@@ -10,7 +10,7 @@ use Rattle.masks.specs.declared.Row.{Row}
 use Rattle.rebac.specs.Matter.{Pair, pair}
 use Rattle.rebac.specs.Words.{Word}
 use Rattle.rebac.specs.Rules.{RuleList, permits}
-use Rattle.rebac.specs.Verdict.{Verdict, convertible, noWord, rivalled, judge}
+use Rattle.rebac.specs.Verdict.{Verdict, convertible, noWord, rivalled}
 use Rattle.rebac.specs.Mining.{termOf}
 use Rattle.graph.specs.declared.Archive.{Archive}
 use Rattle.graph.specs.Legal.{isPair}

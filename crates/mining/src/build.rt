@@ -1,7 +1,7 @@
 // A pair's term, built in a lent slice.
 ghost use mathlib.Core.Path.{_≡_};
 ghost use mathlib.Core.Bool.{not, _&&_};
-ghost use Prim.Native.Nat.{ℕ, _+_, _≤_};
+ghost use Prim.Native.Nat.{_+_, _≤_};
 ghost use lib.ListN.{length};
 ghost use Rattle.masks.specs.Mask.{testBit};
 ghost use Rattle.masks.specs.Table.{maskIn};

@@ -1,8 +1,7 @@
 -- The terms one after another, then their number before them.
-use mathlib.Core.Path.{_≡_, refl, sym, ap, _∙_}
-use mathlib.Core.Bool.{Bool, true, false}
-use mathlib.Core.List.{List, [], _∷_, _++_}
-use Prim.Native.Nat.{ℕ, _+_, _-_, _*_, _≤_, _<_}
+use mathlib.Core.Path.{sym, ap, _∙_}
+use mathlib.Core.List.{[]}
+use Prim.Native.Nat.{_-_, _*_, _≤_}
 use native.Mathlib.Omega.{arith}
 use lib.ListN.{length}
 use borrow.Author.Tests.{not-true, not-false}
@@ -11,9 +10,6 @@ use Rattle.rules.proofs.RoundTrip.{count-size}
 use Rattle.rules.proofs.PutLaws.{put-length}
 use Rattle.rebac.specs.Words.{Word}
 use Rattle.rebac.specs.Rules.{RuleList}
-use Rattle.rebac.specs.Verdict.{judge}
-use Rattle.mining.specs.Pairs.{pairAt}
-use Rattle.mining.specs.Building.{problemIn, termBytes}
 use Rattle.mining.specs.Taking.{due}
 use Rattle.mining.proofs.ArchiveLaws.{few-parties}
 use Rattle.mining.proofs.TakeLaws.{due-marked}

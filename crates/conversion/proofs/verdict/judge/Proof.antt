@@ -1,18 +1,14 @@
 -- The pairs in turn: the first that is in the way ends it, else the sizes add up to the list's.
-use mathlib.Core.Path.{_≡_, refl, sym, ap, _∙_}
-use mathlib.Core.Bool.{Bool, true, false}
-use mathlib.Core.List.{List, [], _∷_, _++_}
-use Prim.Native.Nat.{ℕ, _+_, _-_, _*_, _≤_, _<_}
+use mathlib.Core.Path.{_≡_, sym, _∙_}
+use mathlib.Core.List.{[]}
+use Prim.Native.Nat.{ℕ, _-_, _*_, _≤_}
 use native.Mathlib.Omega.{arith}
 use borrow.Author.Needs.{needs}
 use borrow.Author.Tests.{not-true, not-false}
 use lib.ListN.{length, length-replicate}
-use Rattle.lists.proofs.Cases.{by-test}
 use Rattle.rebac.specs.Words.{Word}
 use Rattle.rebac.specs.Rules.{RuleList}
-use Rattle.rebac.specs.Verdict.{judge}
 use Rattle.mining.specs.Pairs.{pairAt}
-use Rattle.mining.specs.Building.{problemIn, termBytes}
 use Rattle.mining.specs.Taking.{due}
 use Rattle.mining.proofs.ArchiveLaws.{few-parties}
 use Rattle.mining.proofs.TakeLaws.{due-marked}

@@ -7,7 +7,7 @@ use native.Mathlib.Omega.{arith}
 use borrow.Author.Needs.{needs}
 use borrow.Author.Tests.{not-true, not-false}
 use lib.ListN.{length}
-use Rattle.rebac.specs.Matter.{Matter, Pair, pair}
+use Rattle.rebac.specs.Matter.{Pair, pair}
 use Rattle.rebac.specs.Verdict.{judge}
 use Rattle.rebac.specs.NextWord.{nextWord}
 use Rattle.paths.specs.Word.{symbolsIn}
@@ -17,7 +17,7 @@ use Rattle.rules.specs.ListBytes.{encodeCount, encodeTerm}
 use Rattle.rules.specs.Writing.{put}
 use Rattle.rules.proofs.RoundTrip.{count-size}
 use Rattle.rules.proofs.PutLaws.{put-length, put-over}
-use Rattle.mining.specs.Building.{problemIn, firstBytes, termBytes, BuiltAs}
+use Rattle.mining.specs.Building.{problemIn, firstBytes, termBytes}
 use Rattle.mining.proofs.FirstLaws.{no-words, first-none, first-full, first-bytes, first-size, first-part, term-least, built-over}
 use Rattle.mining.proofs.build.build_term.Statement.{statement}
 use Rattle.mining.proofs.build.build_term.Tie as tie

@@ -1,15 +1,14 @@
 -- The nested loops: a pair that misses a word of the term is passed, one that has all is a rival or brings the first word that it lacks.
 use mathlib.Core.Path.{_≡_, refl, sym, ap, _∙_}
-use mathlib.Core.Bool.{Bool, true, false, not, _&&_}
+use mathlib.Core.Bool.{Bool, true, false}
 use mathlib.Core.List.{List, [], _∷_, _++_}
 use mathlib.Core.Option.{some}
-use Prim.Native.Nat.{ℕ, _+_, _-_, _*_, _/_, _%_, _≤_, _<_}
+use Prim.Native.Nat.{ℕ, _+_, _-_, _*_, _/_, _%_, _≤_}
 use native.Mathlib.Omega.{arith}
-use borrow.Author.Needs.{needs}
 use borrow.Author.Tests.{not-true, not-false}
 use lib.ListN.{length, drop}
 use Rattle.lists.specs.Lists.{allOf, firstBy}
-use Rattle.rebac.specs.Matter.{Matter, Pair, pair}
+use Rattle.rebac.specs.Matter.{Pair, pair}
 use Rattle.rebac.specs.Paths.{has}
 use Rattle.rebac.specs.Verdict.{wordsOf}
 use Rattle.rebac.specs.Mining.{lacks}

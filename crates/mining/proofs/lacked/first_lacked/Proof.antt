@@ -1,5 +1,5 @@
 -- The words passed so far are had by the other pair, so the first lacked one is the first after them.
-use mathlib.Core.Path.{_≡_, sym, _∙_}
+use mathlib.Core.Path.{sym, _∙_}
 use borrow.Author.Tests.{not-true, not-false}
 use Rattle.rebac.specs.Matter.{Matter, pair}
 use Rattle.rebac.specs.NextWord.{nextWord}

@@ -1,8 +1,7 @@
 -- The word after the empty one.
-use mathlib.Core.Path.{_≡_, refl}
+use mathlib.Core.Path.{refl}
 use native.Mathlib.Omega.{arith}
 use lib.ListN.{replicate}
-use Rattle.rebac.specs.Matter.{Matter}
 use Rattle.paths.specs.Word.{Short}
 use Rattle.paths.proofs.CallLaws.{query-in, next-shown}
 use Rattle.mining.proofs.LackedLaws.{longest-in}
