@@ -1,5 +1,4 @@
 // The calls that are given more than a file.
-ghost use mathlib.Core.Path.{_≡_};
 ghost use Prim.Native.Nat.{_+_, _≤_};
 ghost use lib.ListN.{length};
 use crate::fill;

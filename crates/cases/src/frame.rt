@@ -1,6 +1,5 @@
 // A frame's first 24 bytes.
 ghost use Prim.Native.Nat.{_+_, _<_};
-ghost use lib.ListN.{length};
 use libc::STDIN_FILENO;
 
 pub struct Frame {

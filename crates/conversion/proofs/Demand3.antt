@@ -27,7 +27,7 @@ use Rattle.rebac.proofs.SymbolsLaws.{listed-language}
 use Rattle.rebac.proofs.PairsLaws.{pairs-in, pairs-out, pairs-ascending}
 use Rattle.rebac.proofs.Reach.{has-in, has-out, least-is-path, least-is-least, least-none}
 use Rattle.rebac.proofs.SearchLaws.{least-size}
-use Rattle.rebac.proofs.VerdictLaws.{judge-word, judge-no-rival, NoWord, Rivalled}
+use Rattle.rebac.proofs.VerdictLaws.{judge-word, judge-no-rival, NoWord, Rivalled, is-convertible}
 use Rattle.rebac.proofs.Conversion.{score-has, score-one, pair-words-in, pair-words-out, mined-words, mined-terms-few, mined-items-few, no-word-verdict, rival-verdict, convertible-iff, mined-converts}
 use Rattle.house_file.specs.Check.{checkOf}
 use Rattle.house_file.specs.declared.reply.Check.{Check}
@@ -108,17 +108,12 @@ module _ (M : Matter) where
             (h .0, has-out (enlarged M) q v (sym (score-has M q v) ∙ le-leb 1 (score M q v) (omega arith)));
       }
 
-  is-convertible : (v : Verdict Pair) → isConvertible (problemOf M) v ≡ true → v ≡ convertible
-  is-convertible convertible e = refl
-  is-convertible (noWord p) e = clash (sym e)
-  is-convertible (rivalled p q) e = clash (sym e)
-
   hinders-in : (p : Pair) → Hinders M p → spoils (problemOf M) p ≡ true
   unfolding spoils problemOf problemOver pairWords
   hinders-in p h =
       by-test (isConvertible (problemOf M) (judge (problemOf M) p))
       (λ c.
-      let j = is-convertible (judge (problemOf M) p) c in
+      let j = is-convertible (problemOf M) (judge (problemOf M) p) c in
       let w : (w : Word) × List·Memᴰ w (pairWords M p) = judge-word (problemOf M) p j in
       ⊎-elim
       (λ (n : Wordless M p). absurd (n (w .0) (word-out p (w .0) (w .1))))

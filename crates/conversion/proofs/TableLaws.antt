@@ -16,15 +16,11 @@ use Rattle.rules.specs.Writing.{put}
 use Rattle.rules.proofs.PutLaws.{put-more}
 use Rattle.conversion.specs.Calls.{oneIf, clearTable}
 use Rattle.conversion.specs.Passes.{rowBytes}
+use Rattle.lists.proofs.ListLaws.{up-length}
 
 -- the byte of number k
 abbrev pub byteAt : Row → ℕ → ℕ
 byteAt r k = oneIf (testBit (maskIn r (k / 32)) (k % 32))
-
-up-length : (a k : ℕ) → length (upFrom a k) ≡ k
-unfolding upFrom
-up-length a zero = refl
-up-length a (suc k) = ap suc (up-length (suc a) k)
 
 -- the first k bytes
 unfoldable pub bytesTo : Row → ℕ → List ℕ

@@ -1,13 +1,12 @@
 -- What an accepted file's decoded form says of its matter: its numbers are in 01's limits, and each label's bit is an edge. Assumes nothing.
-use mathlib.Core.Path.{_≡_, refl, sym, ap, _∙_}
+use mathlib.Core.Path.{_≡_, sym, ap, _∙_}
 use mathlib.Core.List.{List}
-use Prim.Native.Nat.{ℕ, _≤_, _<_}
+use Prim.Native.Nat.{ℕ, _≤_}
 use native.Mathlib.Omega.{arith}
-use lib.Dec.{ltb}
 use borrow.Author.Tests.{lt-ltb}
 use Rattle.masks.specs.Mask.{testBit}
 use Rattle.masks.specs.Table.{maskAt}
-use Rattle.house_file.specs.Layout.{labelsOf, headerOf}
+use Rattle.house_file.specs.Layout.{labelsOf}
 use Rattle.house_file.specs.Check.{checkOf}
 use Rattle.house_file.specs.Meaning.{isEdge}
 use Rattle.house_file.specs.Decoded.{Decoded, bitOf}

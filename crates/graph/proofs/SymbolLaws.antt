@@ -1,16 +1,14 @@
 -- The symbols of a pair of parties: by the four kinds of a symbol. Assumes nothing.
-use mathlib.Core.Path.{_≡_, refl, sym, ap, _∙_}
-use mathlib.Core.Bool.{Bool, true, false, not, _&&_, _||_}
-use mathlib.Core.List.{List}
+use mathlib.Core.Path.{_≡_, refl, ap}
+use mathlib.Core.Bool.{Bool, true, false, not, _&&_}
 use mathlib.Core.Logic.{by-cases}
-use Prim.Native.Nat.{ℕ, zero, suc, _+_, _*_, _/_, _%_, _≤_, _<_}
+use Prim.Native.Nat.{ℕ, zero, suc, _*_, _/_, _%_, _≤_, _<_}
 use native.Mathlib.Decide.{decLt}
 use native.Mathlib.Omega.{arith}
 use lib.Dec.{eqb, ltb}
 use borrow.Author.Tests.{lt-ltb, le-ltb, eq-eqb, ne-eqb}
 use Rattle.lists.specs.Lists.{anyOf, member}
 use Rattle.lists.proofs.Cases.{by-test, and-false}
-use Rattle.masks.specs.Mask.{testBit}
 use Rattle.masks.specs.Table.{maskAt}
 use Rattle.masks.specs.declared.Table.{Table}
 use Rattle.rebac.specs.Matter.{Matter}

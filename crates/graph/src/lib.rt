@@ -1,6 +1,6 @@
 // The enlarged graph of a house file: for each two different parties the set of symbols that hold, as a mask.
 ghost use mathlib.Core.Path.{_≡_};
-ghost use mathlib.Core.Bool.{Bool, _&&_};
+ghost use mathlib.Core.Bool.{_&&_};
 ghost use Prim.Native.Nat.{ℕ, _*_, _≤_, _<_};
 ghost use lib.Dec.{ltb};
 ghost use Rattle.lists.specs.Lists.{member};

@@ -1,8 +1,8 @@
 -- A walk along one chain, turn by turn: marks stand for the records reached, the row for their kinds, and the definition's turns that
 -- are left stay above the number of records not reached. Assumes nothing.
 use mathlib.Core.Path.{_≡_, refl, sym, ap, _∙_}
-use mathlib.Core.Bool.{Bool, true, false, not, _&&_, _||_}
-use mathlib.Core.List.{List, [], _∷_, _++_, append-assoc}
+use mathlib.Core.Bool.{Bool, true, false, not, _||_}
+use mathlib.Core.List.{List, [], _∷_, _++_, append-assoc, append-nil}
 use mathlib.Core.Logic.{by-cases}
 use Prim.Native.Nat.{ℕ, zero, suc, _-_, _≤_, _<_}
 use native.Mathlib.Decide.{ℕ-discrete}
@@ -13,14 +13,14 @@ use lib.Dec.{eqb, ltb}
 use borrow.Author.Tests.{eq-eqb, ne-eqb, lt-ltb, le-ltb, eqb-true, not-false}
 use Rattle.lists.specs.Lists.{anyOf, member}
 use Rattle.lists.proofs.ListLaws.{any-append, any-one}
-use Rattle.lists.proofs.Cases.{by-test, or-true, and-false}
+use Rattle.lists.proofs.Cases.{or-true, and-false, or-false}
 use Rattle.masks.specs.Mask.{testBit, withBit}
 use Rattle.masks.specs.Table.{maskIn}
 use Rattle.masks.specs.declared.Row.{Row}
 use Rattle.masks.proofs.BitLaws.{test-with-same, test-with-other}
 use Rattle.masks.proofs.MaskLaws.{zero-bit}
 use Rattle.house_file.specs.Layout.{headOf, partiesOf, labelsOf, recordsOf, recordOf}
-use Rattle.house_file.specs.Check.{legalKind, legalTarget, judgeRecord, recordCheck, says, Walk, stopped, passed, onward, pick, walkChain}
+use Rattle.house_file.specs.Check.{legalKind, judgeRecord, recordCheck, says, Walk, stopped, passed, onward, pick, walkChain}
 use Rattle.house_file.specs.Decoded.{bitOf}
 use Rattle.house_file.specs.Reading.{Marks, RowOf, chainWalk}
 use Rattle.house_file.specs.declared.reply.Check.{Check}
@@ -31,10 +31,6 @@ use Rattle.house_file.proofs.RecordLaws.{judge-same, judge-passed, Pass
 use Rattle.house_file.proofs.Clear.{clear, clear-le, clear-set}
 
 -- one more at the end
-pub or-false : (b : Bool) → (b || false) ≡ b
-or-false true = refl
-or-false false = refl
-
 pub any-more : {A : Type 0} (p : A → Bool) (l : List A) (x : A) → anyOf p (l ++ (x ∷ [])) ≡ (anyOf p l || p x)
 any-more p l x = any-append p l (x ∷ []) ∙ ap (λ (b : Bool). anyOf p l || b) (any-one p x)
 
@@ -98,10 +94,6 @@ pub record Here (f : List ℕ) (u : ℕ) (before marks : List ℕ) (row : Row) (
   pub marked : Marks marks (before ++ earlier)
   pub kinds : RowOf f row earlier
   pub same : chainWalk f u before ≡ walkChain f u fuel before earlier at
-
-append-nil : {A : Type 0} (l : List A) → l ++ [] ≡ l
-append-nil [] = refl
-append-nil (x ∷ l) = ap (λ (m : List _). x ∷ m) (append-nil l)
 
 pub here-start : (f : List ℕ) (u : ℕ) (before marks : List ℕ) (row : Row) (at : ℕ) → at ≡ headOf f u → ((v : ℕ) → maskIn row v ≡ 0) → Marks marks before → Here f u before marks row at
 here-start f u before marks row at a e m = record {

@@ -1,22 +1,22 @@
 -- The walk along all chains passes exactly where each chain is right and no record stands in two: by induction on the parties, both ways.
 -- Assumes nothing.
 use mathlib.Core.Path.{_≡_, refl, sym, ap, _∙_}
-use mathlib.Core.Bool.{Bool, true, false}
-use mathlib.Core.Logic.{_⊎_, inl, inr, ⊎-elim, by-cases}
-use mathlib.Core.List.{List, [], _∷_, _++_, append-assoc, List·Memᴰ, List·Memᴰ·not-nil, Memᴰ·append-left, Memᴰ·append-right, List·Memᴰ·append-cases}
+use mathlib.Core.Bool.{true}
+use mathlib.Core.Logic.{_⊎_, ⊎-elim, by-cases}
+use mathlib.Core.List.{List, [], _++_, append-assoc, List·Memᴰ, List·Memᴰ·not-nil, Memᴰ·append-left, Memᴰ·append-right, List·Memᴰ·append-cases, append-nil}
 use Prim.Native.Nat.{ℕ, zero, suc, _+_, _≤_, _<_}
 use native.Mathlib.Decide.{ℕ-discrete}
 use native.Mathlib.Omega.{arith}
-use Rattle.lists.specs.Lists.{anyOf, member}
+use Rattle.lists.specs.Lists.{anyOf}
 use Rattle.lists.specs.Order.{Distinct}
 use Rattle.lists.proofs.Cases.{both}
-use Rattle.lists.proofs.ListLaws.{member-in, member-not, member-out}
+use Rattle.lists.proofs.ListLaws.{member-in, member-not}
 use Rattle.house_file.specs.Layout.{partiesOf, labelsOf, headOf, recordsOf, recordOf}
-use Rattle.house_file.specs.Check.{legalTarget, legalKind, Walk, stopped, passed, andThen, walkChain, walkChains}
-use Rattle.house_file.specs.Meaning.{chainFrom, chainOf, Linked}
+use Rattle.house_file.specs.Check.{legalTarget, legalKind, Walk, stopped, passed, andThen, walkChains}
+use Rattle.house_file.specs.Meaning.{chainOf, Linked}
 use Rattle.house_file.specs.Reading.{chainWalk}
 use Rattle.house_file.proofs.ChainLaws.{unlike}
-use Rattle.house_file.proofs.WalkLaws.{Right, Passes, walk-passed, passed-walk, append-nil}
+use Rattle.house_file.proofs.WalkLaws.{walk-passed, passed-walk}
 
 -- a chain that is right by itself
 pub record RightChain (f : List ℕ) (u : ℕ) : Type 0 where

@@ -1,6 +1,6 @@
 -- The walk along all chains, party by party: marks stand for the records of the chains passed, rows for their kinds. Assumes nothing.
-use mathlib.Core.Path.{_≡_, refl, sym, ap, _∙_}
-use mathlib.Core.Bool.{Bool, true, false, not, _&&_}
+use mathlib.Core.Path.{_≡_, refl, ap, _∙_}
+use mathlib.Core.Bool.{true, not}
 use mathlib.Core.List.{List, [], _++_}
 use mathlib.Core.Logic.{by-cases}
 use Prim.Native.Nat.{ℕ, zero, suc, _+_, _-_, _≤_, _<_}
@@ -9,7 +9,7 @@ use native.Mathlib.Numerals.{add-one}
 use native.Mathlib.Omega.{arith}
 use lib.ListN.{replicate}
 use borrow.Author.Tests.{lt-ltb, le-ltb}
-use Rattle.lists.specs.Lists.{anyOf, member}
+use Rattle.lists.specs.Lists.{anyOf}
 use Rattle.masks.specs.Mask.{testBit}
 use Rattle.masks.specs.Table.{maskIn, maskAt}
 use Rattle.masks.specs.declared.Row.{Row}

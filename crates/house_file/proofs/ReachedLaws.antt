@@ -1,13 +1,12 @@
 -- Every record was reached exactly where no mark is 0. Assumes nothing.
-use mathlib.Core.Path.{_≡_, refl, sym, ap, _∙_}
-use mathlib.Core.Bool.{Bool, true, false, not}
+use mathlib.Core.Path.{_≡_, sym, ap, _∙_}
+use mathlib.Core.Bool.{true, false, not}
 use mathlib.Core.List.{List}
-use Prim.Native.Nat.{ℕ, suc, _-_, _≤_, _<_}
+use Prim.Native.Nat.{ℕ, suc, _-_, _<_}
 use native.Mathlib.Omega.{arith}
 use lib.ListN.{getD}
-use lib.Dec.{eqb}
 use borrow.Author.Tests.{eq-eqb, ne-eqb}
-use Rattle.lists.specs.Lists.{allOf, member, upFrom}
+use Rattle.lists.specs.Lists.{member, upFrom}
 use Rattle.lists.proofs.Cases.{by-test, both}
 use Rattle.lists.proofs.ListLaws.{all-in, all-of, up-in, up-out}
 use Rattle.house_file.specs.Reading.{Marks, everyReached}

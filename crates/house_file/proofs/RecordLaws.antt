@@ -1,15 +1,14 @@
 -- What a legal target and a legal kind are, and a record's checks one by one: by the outcome of each test. Assumes nothing.
-use mathlib.Core.Path.{_≡_, refl, sym, ap, _∙_}
-use mathlib.Core.Logic.{_⊎_, inl, inr, by-cases, ⊎-elim}
-use mathlib.Core.Bool.{Bool, true, false, not, _&&_, _||_}
+use mathlib.Core.Path.{_≡_, sym, _∙_}
+use mathlib.Core.Logic.{_⊎_, inl, inr, ⊎-elim}
+use mathlib.Core.Bool.{Bool, true, false, not}
 use Prim.Native.Nat.{ℕ, _≤_, _<_}
-use native.Mathlib.Decide.{ℕ-discrete}
 use native.Mathlib.Omega.{arith}
 use lib.Dec.{eqb, ltb}
-use borrow.Author.Tests.{ltb-true, ltb-false, eqb-true, eqb-false, eq-eqb, ne-eqb, lt-ltb, le-ltb, not-true}
-use Rattle.lists.proofs.Cases.{by-test, and-left, and-right, and-both, clash}
+use borrow.Author.Tests.{ltb-true, eqb-true, eqb-false, ne-eqb, lt-ltb, not-true}
+use Rattle.lists.proofs.Cases.{by-test, and-left, and-right}
 use Rattle.house_file.specs.Layout.{permitKind}
-use Rattle.house_file.specs.Check.{legalTarget, legalKind, judgeRecord, refuse}
+use Rattle.house_file.specs.Check.{legalTarget, legalKind, judgeRecord}
 use Rattle.house_file.specs.Decoded.{bitOf}
 use Rattle.house_file.specs.declared.record.Record.{Record}
 use Rattle.house_file.specs.declared.reply.Check.{Check}

@@ -1,7 +1,7 @@
 -- A walk along one chain passes exactly where the chain's records are right and new: by induction on the turns, both ways. Assumes nothing.
 use mathlib.Core.Path.{_≡_, refl, sym, ap, _∙_}
-use mathlib.Core.Bool.{Bool, true, false, not, _&&_, _||_}
-use mathlib.Core.List.{List, [], _∷_, _++_, append-assoc, List·Memᴰ, List·Memᴰ·head, List·Memᴰ·tail, List·Memᴰ·not-nil, Memᴰ·append-right}
+use mathlib.Core.Bool.{Bool, true, false, _||_}
+use mathlib.Core.List.{List, [], _∷_, _++_, append-assoc, List·Memᴰ, List·Memᴰ·head, List·Memᴰ·tail, List·Memᴰ·not-nil, append-nil}
 use Prim.Native.Nat.{ℕ, zero, suc, _≤_, _<_}
 use native.Mathlib.Omega.{arith}
 use lib.Dec.{eqb, ltb}
@@ -9,14 +9,13 @@ use borrow.Author.Tests.{eq-eqb, ne-eqb, le-ltb, eqb-true, eqb-false, ltb-false,
 use Rattle.lists.specs.Lists.{anyOf, member}
 use Rattle.lists.specs.Order.{Distinct}
 use Rattle.lists.proofs.Cases.{by-test, by-mem, both, clash}
-use Rattle.lists.proofs.ListLaws.{any-in, member-in, member-not, member-out}
 use Rattle.house_file.specs.Layout.{partiesOf, labelsOf, recordsOf, recordOf}
-use Rattle.house_file.specs.Check.{legalTarget, legalKind, recordCheck, says, Walk, stopped, passed, onward, pick, walkChain}
+use Rattle.house_file.specs.Check.{legalTarget, legalKind, recordCheck, says, Walk, passed, onward, walkChain}
 use Rattle.house_file.specs.Meaning.{chainFrom, Linked}
 use Rattle.house_file.specs.declared.reply.Check.{Check}
 use Rattle.house_file.specs.declared.reply.Check.the-variants.{Accepted, Refused}
-use Rattle.house_file.proofs.RecordLaws.{judge-accepts, judge-passed, Passed}
-use Rattle.house_file.proofs.ChainLaws.{any-more, any-yes, any-no, or-false, unlike}
+use Rattle.house_file.proofs.RecordLaws.{judge-accepts, judge-passed}
+use Rattle.house_file.proofs.ChainLaws.{any-more, any-yes, any-no, unlike}
 
 or-left : (b c : Bool) → (b || c) ≡ false → b ≡ false
 or-left true c e = e
@@ -141,10 +140,6 @@ onward-passed (Refused y) w e = unlike refl e
 pub record Passes (f : List ℕ) (u k : ℕ) (before earlier : List ℕ) (r : ℕ) (c : List ℕ) : Type 0 where
   pub shape : c ≡ earlier ++ chainFrom f k r
   pub right : Right f u before earlier r (chainFrom f k r)
-
-pub append-nil : {A : Type 0} (l : List A) → l ++ [] ≡ l
-append-nil [] = refl
-append-nil (x ∷ l) = ap (λ (m : List _). x ∷ m) (append-nil l)
 
 inside : (f : List ℕ) (u k : ℕ) (before earlier : List ℕ) (r : ℕ) {c : List ℕ} → walkChain f u (suc k) before earlier r ≡ passed c → (r ≡ 0 → ⊥) → r ≤ recordsOf f
 unfolding walkChain

@@ -1,25 +1,25 @@
 -- Accepted means well formed: the header's tests one by one, then the walk along all chains. Assumes nothing.
-use mathlib.Core.Path.{_≡_, refl, sym, ap, _∙_}
-use mathlib.Core.Bool.{Bool, true, false, not, _&&_, _||_}
-use mathlib.Core.Logic.{_⊎_, _↔_, ⊎-elim}
-use mathlib.Core.List.{List, [], _∷_, _++_, List·Memᴰ, List·Memᴰ·not-nil}
-use Prim.Native.Nat.{ℕ, zero, suc, _+_, _≤_, _<_}
+use mathlib.Core.Path.{_≡_, refl, ap, _∙_}
+use mathlib.Core.Bool.{Bool, true, false, not}
+use mathlib.Core.Logic.{_↔_}
+use mathlib.Core.List.{List, [], List·Memᴰ, List·Memᴰ·not-nil}
+use Prim.Native.Nat.{ℕ, _≤_, _<_}
 use native.Mathlib.Omega.{arith}
 use lib.ListN.{length}
 use lib.Dec.{eqb, ltb, leb}
-use borrow.Author.Tests.{eq-eqb, ne-eqb, eqb-true, le-leb, leb-true, lt-ltb, le-ltb, ltb-false, not-false, not-true}
+use borrow.Author.Tests.{eq-eqb, ne-eqb, eqb-true, le-leb, leb-true, lt-ltb, le-ltb, ltb-false, not-false}
 use Rattle.lists.specs.Lists.{allOf, member, upFrom}
-use Rattle.lists.proofs.Cases.{by-test, both, and-left, and-right, and-both}
+use Rattle.lists.proofs.Cases.{and-left, and-right, and-both}
 use Rattle.lists.proofs.ListLaws.{all-in, all-of, up-in, up-out, member-in, member-out}
-use Rattle.house_file.specs.Layout.{byteAt, partiesOf, labelsOf, languageOf, longestOf, recordsOf, sizeOf, headOf, recordOf}
+use Rattle.house_file.specs.Layout.{byteAt, partiesOf, labelsOf, languageOf, longestOf, recordsOf, sizeOf, recordOf}
 use Rattle.house_file.specs.Check.{refuse, within, fieldsInRange, Walk, stopped, passed, walkChains, reachedAll, chainsCheck, checkOf}
-use Rattle.house_file.specs.Meaning.{chainOf, FieldsRight, WellFormed}
+use Rattle.house_file.specs.Meaning.{FieldsRight, WellFormed}
 use Rattle.house_file.specs.declared.reply.Check.{Check}
 use Rattle.house_file.specs.declared.reply.Check.the-variants.{Accepted, Refused}
 use Rattle.house_file.specs.declared.reply.Refusal.{Refusal}
 use Rattle.house_file.specs.declared.reply.Refusal.the-variants.{Length, Field, Unreached}
 use Rattle.house_file.proofs.RecordLaws.{target-below, target-other, target-legal, kind-cases, kind-legal}
-use Rattle.house_file.proofs.ChainsLaws.{RightChain, RightChains, chainsFrom, chains-in, chains-out, walks-passed, passed-walks}
+use Rattle.house_file.proofs.ChainsLaws.{chainsFrom, chains-in, chains-out, walks-passed, passed-walks}
 
 -- a test that was passed over
 pub refuse-passed : (b : Bool) (x : Refusal) (k : Check) → refuse b x k ≡ Accepted → (b ≡ false) × (k ≡ Accepted)

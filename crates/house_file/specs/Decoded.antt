@@ -1,7 +1,7 @@
 -- What a decoded file holds: the header's numbers, the kinds recorded for each pair, and the permit table.
 use Prim.Native.Nat.{ℕ}
 use mathlib.Core.Path.{_≡_}
-use mathlib.Core.Bool.{Bool, true, false}
+use mathlib.Core.Bool.{true}
 use mathlib.Core.List.{List}
 use lib.Dec.{eqb}
 use Rattle.masks.specs.Mask.{testBit}

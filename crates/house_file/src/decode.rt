@@ -2,7 +2,6 @@
 ghost use mathlib.Core.Path.{_≡_};
 ghost use mathlib.Core.List.{List};
 ghost use Prim.Native.Nat.{ℕ, _≤_};
-ghost use lib.ListN.{length};
 ghost use Rattle.masks.specs.Mask.{testBit};
 ghost use Rattle.masks.specs.Table.{maskIn, maskAt};
 ghost use Rattle.house_file.specs.Check.{checkOf};

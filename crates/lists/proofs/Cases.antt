@@ -34,6 +34,10 @@ pub or-true : (b : Bool) {c : Bool} → c ≡ true → (b || c) ≡ true
 or-true true e = refl
 or-true false e = e
 
+pub or-false : (b : Bool) → (b || false) ≡ b
+or-false true = refl
+or-false false = refl
+
 pub and-left : (b c : Bool) → (b && c) ≡ true → b ≡ true
 and-left true c e = refl
 and-left false c e = e

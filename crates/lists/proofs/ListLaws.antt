@@ -3,10 +3,11 @@ use mathlib.Core.Path.{_≡_, refl, sym, ap, _∙_}
 use mathlib.Core.Logic.{⊎-elim}
 use mathlib.Core.Bool.{Bool, true, false, _&&_, _||_}
 use mathlib.Core.List.{List, [], _∷_, _++_, map, List·Memᴰ, List·Memᴰ·head, List·Memᴰ·tail, List·Memᴰ·not-nil, Memᴰ·append-left, Memᴰ·append-right, List·Memᴰ·append-cases}
-use mathlib.Core.Option.{Option, none, some}
+use mathlib.Core.Option.{none, some}
 use Prim.Native.Nat.{ℕ, zero, suc, _+_, _≤_, _<_}
 use native.Mathlib.Omega.{arith}
 use lib.Dec.{eqb}
+use lib.ListN.{length}
 use borrow.Author.Tests.{eqb-true, eqb-false, eq-eqb}
 use Rattle.lists.specs.Lists.{allOf, anyOf, filterBy, firstBy, flatMap, member, upFrom, range}
 use Rattle.lists.proofs.Cases.{by-test, by-mem, clash, both}
@@ -145,6 +146,11 @@ pub up-out : (a k : ℕ) {x : ℕ} → List·Memᴰ x (upFrom a k) → (a ≤ x)
 unfolding upFrom
 up-out a zero m = absurd (List·Memᴰ·not-nil m)
 up-out a (suc k) {x} m = by-mem m (λ e. (omega arith, omega arith)) (λ n. let r = up-out (suc a) k n in (omega (arith, r .0), omega (arith, r .1)))
+
+pub up-length : (a k : ℕ) → length (upFrom a k) ≡ k
+unfolding upFrom
+up-length a zero = refl
+up-length a (suc k) = ap suc (up-length (suc a) k)
 
 pub range-in : (n x : ℕ) → x < n → List·Memᴰ x (range n)
 unfolding range

@@ -1,18 +1,17 @@
 -- One binary digit of a number, at any width: by splitting the number at the digit. Assumes nothing.
 use mathlib.Core.Path.{_≡_, refl, sym, ap, _∙_, subst}
-use mathlib.Core.Bool.{Bool, true, false}
+use mathlib.Core.Bool.{true, false}
 use mathlib.Core.Logic.{_⊎_, inl, inr, ⊎-elim, by-cases}
-use Prim.Native.Nat.{ℕ, zero, suc, _+_, _-_, _*_, _/_, _%_, _^_, _≤_, _<_, max, min}
-use native.Mathlib.Nat.{mod-lt, div-self, div-eq-of-lt, zero-mod, zero-div, pow-suc, mul-mod-left, lt-of-lt-of-le, div-add-mod', add-comm, one-mul}
+use Prim.Native.Nat.{ℕ, zero, suc, _+_, _-_, _*_, _/_, _%_, _^_, _≤_, _<_}
+use native.Mathlib.Nat.{mod-lt, div-self, div-eq-of-lt, zero-div, pow-suc, mul-mod-left, one-mul}
 use native.Mathlib.Omega.{arith}
-use native.Mathlib.Numerals.{add-one}
-use native.Mathlib.Decide.{decLt, ℕ-discrete}
+use native.Mathlib.Decide.{decLt}
 use lib.Dec.{eqb, lit<}
-use lib.Arith.{digits-div, digits-mod, bin-ind}
-use lib.Pow.{pow-pos, pow-lt, pow-mono, pow-add, shl-shr, shr-shr, split, shl-exact}
-use lib.Bits.{bitAnd, bitOr, and-mask, or-shr, or-mod, or-lt, or-zero-r, or-zero-l, or-block, or-step}
+use lib.Arith.{bin-ind}
+use lib.Pow.{pow-pos, pow-lt, pow-add, shl-shr, shr-shr, split, shl-exact}
+use lib.Bits.{bitAnd, bitOr, and-mask, or-shr, or-mod, or-lt, or-zero-r, or-block, or-step}
 use lib.Count.{ones, ones-cat, ones-step}
-use borrow.Author.Tests.{eqb-true, eqb-false, eq-eqb, ne-eqb}
+use borrow.Author.Tests.{eqb-false, eq-eqb, ne-eqb}
 use Rattle.masks.specs.Mask.{bitAt, testBit, withBit}
 
 -- a digit is 0 or 1

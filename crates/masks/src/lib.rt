@@ -1,8 +1,6 @@
 // Sets of up to 32 places as masks of 32 bits, rows of 32 masks, and tables of 32 rows, by value.
 ghost use mathlib.Core.Path.{_≡_};
-ghost use mathlib.Core.Bool.{Bool};
 ghost use Prim.Native.Nat.{ℕ, _<_};
-ghost use lib.ListN.{length};
 ghost use Rattle.masks.specs.Mask.{testBit, withBit};
 ghost use Rattle.masks.specs.Table.{maskIn, maskAt};
 

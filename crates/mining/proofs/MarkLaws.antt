@@ -9,7 +9,7 @@ use native.Mathlib.Decide.{ℕ-discrete}
 use lib.Dec.{ltb}
 use borrow.Author.Tests.{lt-ltb, le-ltb, ltb-true, ltb-false}
 use Rattle.lists.specs.Lists.{anyOf}
-use Rattle.lists.proofs.Cases.{by-test, both, or-true}
+use Rattle.lists.proofs.Cases.{by-test, both, or-true, or-false}
 use Rattle.lists.proofs.ListLaws.{any-append, any-one}
 use Rattle.masks.specs.Mask.{testBit, withBit}
 use Rattle.masks.specs.Table.{maskIn}
@@ -32,10 +32,6 @@ use Rattle.mining.proofs.ArchiveLaws.{owned-met}
 
 abbrev pub MarkedTo : (ℕ → ℕ → Bool) → ℕ → Row → Row → ℕ → Type 0
 MarkedTo f n old row k = (x y : ℕ) → testBit (maskIn row x) y ≡ (testBit (maskIn old x) y || (ltb (32 * x + y) k && (isPair n x y && f x y)))
-
-or-false : (b : Bool) → (b || false) ≡ b
-or-false true = refl
-or-false false = refl
 
 or-and : (b c d : Bool) → ((b && c) || (b && d)) ≡ (b && (c || d))
 or-and true c d = refl

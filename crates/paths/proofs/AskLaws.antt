@@ -1,31 +1,28 @@
 -- The search for a pair is the word test and the least path: fixed places lead where their symbols do. Assumes nothing.
-use mathlib.Core.Path.{_≡_, refl, sym, ap, _∙_}
-use mathlib.Core.Bool.{Bool, true, false, not, _&&_, _||_}
-use mathlib.Core.List.{List, [], _∷_, map, List·Memᴰ}
-use mathlib.Core.Logic.{by-cases}
-use mathlib.Core.Option.{Option, none, some}
+use mathlib.Core.Path.{_≡_, refl, ap, _∙_}
+use mathlib.Core.Bool.{Bool, _||_}
+use mathlib.Core.List.{List, [], _∷_, map}
+use mathlib.Core.Option.{none}
 use Prim.Native.Nat.{ℕ, zero, suc, _≤_, _<_}
-use native.Mathlib.Decide.{ℕ-discrete}
 use native.Mathlib.Omega.{arith}
 use lib.Dec.{eqb}
 use lib.ListN.{length}
-use Rattle.lists.specs.Lists.{anyOf, flatMap, member, range}
-use Rattle.lists.proofs.Cases.{by-found, both}
+use Rattle.lists.specs.Lists.{anyOf, flatMap, range}
 use Rattle.lists.proofs.ListLaws.{any-same}
 use Rattle.masks.specs.Mask.{testBit, withBit}
-use Rattle.masks.specs.Table.{maskAt}
 use Rattle.masks.specs.declared.Table.{Table}
 use Rattle.masks.proofs.MaskLaws.{zero-bit}
 use Rattle.rebac.specs.Matter.{Pair, pair}
-use Rattle.rebac.specs.Paths.{Graph, reach, has, routes, candidates, pathsOf, leastPath}
-use Rattle.rebac.specs.Forms.{Place, exactly, from}
+use Rattle.rebac.specs.Paths.{reach, has, routes, candidates, pathsOf, leastPath}
+use Rattle.rebac.specs.Forms.{Place, exactly}
 use Rattle.rebac.specs.Options.{isSome}
-use Rattle.rebac.specs.Marked.{onto, Marks, leastMarked}
+use Rattle.rebac.specs.Marked.{onto, Marks}
 use Rattle.rebac.proofs.SearchLaws.{long-word, no-empty-word}
 use Rattle.rebac.proofs.MarkedLaws.{marked-has, marked-path}
-use Rattle.paths.specs.Search.{placeOn, maskGraph, formOf, searchFrom}
+use Rattle.paths.specs.Search.{maskGraph, formOf, searchFrom}
 use Rattle.paths.specs.Ask.{tableGraph, searchPair}
 use Rattle.paths.proofs.SearchLaws.{mark-law}
+use Rattle.rebac.proofs.OptionLaws.{none-of}
 
 module _ (n : ℕ) (t : Table) (first second : ℕ) where
   start-marks : Marks n (λ c v. testBit v c) (withBit 0 first) (first ∷ [])
@@ -39,11 +36,6 @@ module _ (n : ℕ) (t : Table) (first second : ℕ) where
   pub search-path : (xs : List Place) → onto first (searchPair n t first second xs) ≡ leastPath (maskGraph n t) (pair first second) xs
   unfolding searchFrom
   search-path xs = marked-path (maskGraph n t) (λ c v. testBit v c) (λ c v. withBit v c) (λ c d v h k. mark-law c d v) (pair first second) xs (withBit 0 first) start-marks
-
-  -- a search whose test is false finds nothing
-  none-of : {A : Type 0} (o : Option A) → isSome o ≡ false → o ≡ none
-  none-of none e = refl
-  none-of (some x) e = both refl e
 
   pub search-empty : (first ≡ second → ⊥) → searchPair n t first second [] ≡ none
   search-empty d = none-of _ (search-has [] ∙ no-empty-word (maskGraph n t) (pair first second) d)

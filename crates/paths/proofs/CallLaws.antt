@@ -1,9 +1,9 @@
 -- What the calls answer, by the outcome of their tests; a path's parties as bytes, and their number as the ones of a mask. Assumes nothing.
 use mathlib.Core.Path.{_≡_, refl, sym, ap, _∙_}
 use mathlib.Core.Bool.{Bool, true, false, not, _&&_}
-use mathlib.Core.List.{List, [], _∷_, _++_, map, List·Memᴰ, List·Memᴰ·head, List·Memᴰ·tail}
-use mathlib.Core.Option.{Option, none, some}
-use Prim.Native.Nat.{ℕ, zero, suc, _+_, _-_, _*_, _/_, _≤_, _<_}
+use mathlib.Core.List.{List, [], _∷_, _++_, List·Memᴰ, List·Memᴰ·head, List·Memᴰ·tail}
+use mathlib.Core.Option.{none, some}
+use Prim.Native.Nat.{ℕ, zero, suc, _+_, _/_, _≤_, _<_}
 use native.Mathlib.Omega.{arith}
 use native.Mathlib.Numerals.{add-one}
 use lib.Count.{ones}
@@ -13,14 +13,13 @@ use lib.Seq.{drop-cons, ext-getD, length-take-le, getD-take, take-length}
 use borrow.Author.Tests.{ltb-true, leb-true, eqb-false, eq-eqb, ne-eqb, le-leb, lt-leb, not-true}
 use Rattle.lists.specs.Lists.{allOf}
 use Rattle.lists.specs.Order.{Distinct}
-use Rattle.lists.proofs.Cases.{by-test, by-mem, and-left, and-right, and-false, both}
+use Rattle.lists.proofs.Cases.{and-left, and-right, and-false}
 use Rattle.masks.specs.Mask.{testBit, withBit}
-use Rattle.masks.specs.Table.{maskAt}
 use Rattle.masks.proofs.BitLaws.{test-ones, test-with-other}
 use Rattle.masks.proofs.MaskLaws.{zero-bit}
 use Rattle.rebac.specs.Matter.{Matter, Pair, pair, IsPair}
 use Rattle.rebac.specs.Paths.{Graph, leastPath}
-use Rattle.rebac.specs.Symbols.{alphabet, enlarged, holds}
+use Rattle.rebac.specs.Symbols.{alphabet, enlarged}
 use Rattle.rebac.specs.Marked.{onto}
 use Rattle.rebac.proofs.MatterLaws.{graph-equal, next-search-equal}
 use Rattle.rebac.specs.Forms.{searchNext}
@@ -34,7 +33,7 @@ use Rattle.graph.specs.Legal.{isPair, legalSymbol}
 use Rattle.graph.specs.declared.Archive.{Archive}
 use Rattle.paths.specs.Word.{symbolsIn, Short}
 use Rattle.paths.specs.Search.{visitAll, formOf, maskGraph, FoundAs}
-use Rattle.paths.specs.Calls.{Answer, refuses, found, legalWord, pathIn, nextIn}
+use Rattle.paths.specs.Calls.{refuses, found, legalWord, pathIn, nextIn}
 use Rattle.paths.specs.declared.word.Word.{Word}
 use Rattle.paths.specs.declared.search.Found.{Found}
 use Rattle.paths.proofs.SearchLaws.{symbols-length, found-not, found-some}

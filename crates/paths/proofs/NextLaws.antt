@@ -1,20 +1,20 @@
 -- Next word by searches: a search over masks is a search for a word of a form, and the least symbol is the first with which it succeeds.
 -- Assumes nothing.
 use mathlib.Core.Path.{_≡_, refl, sym, ap, _∙_}
-use mathlib.Core.Bool.{Bool, true, false, not, _&&_}
-use mathlib.Core.List.{List, [], _∷_, _++_, map, append-assoc, append-nil, List·Memᴰ}
+use mathlib.Core.Bool.{Bool, true, false, _&&_}
+use mathlib.Core.List.{List, [], _∷_, _++_, append-assoc, append-nil, List·Memᴰ}
 use mathlib.Core.Logic.{by-cases}
 use mathlib.Core.Option.{Option, none, some}
-use Prim.Native.Nat.{ℕ, zero, suc, _+_, _-_, _/_, _%_, _^_, _≤_, _<_}
+use Prim.Native.Nat.{ℕ, zero, suc, _+_, _-_, _/_, _^_, _≤_, _<_}
 use native.Mathlib.Decide.{ℕ-discrete}
 use native.Mathlib.Omega.{arith}
 use native.Mathlib.Numerals.{add-one}
-use lib.Dec.{eqb, leb, ltb}
+use lib.Dec.{eqb, leb}
 use lib.ListN.{length, replicate, set, take, drop, getD, length-append, length-replicate}
 use lib.Seq.{take-set-lt, set-at, getD-take, getD-at, take-suc, length-take-le}
 use borrow.Author.Tests.{eq-eqb, ne-eqb, eqb-true, le-leb, leb-true}
 use Rattle.lists.specs.Lists.{anyOf, firstBy, upFrom, range}
-use Rattle.lists.proofs.Cases.{by-test, by-found, both, clash, and-left, and-right, and-both, and-false}
+use Rattle.lists.proofs.Cases.{by-test, by-found, both, clash, and-left, and-right, and-both}
 use Rattle.lists.proofs.ListLaws.{any-in, any-none, find-some, find-in, range-out}
 use Rattle.masks.specs.Mask.{testBit, bitAt}
 use Rattle.masks.specs.Table.{maskAt}
@@ -22,10 +22,10 @@ use Rattle.masks.specs.declared.Table.{Table}
 use Rattle.masks.proofs.BitLaws.{none-from, some-from}
 use Rattle.rebac.specs.Matter.{Pair, pair}
 use Rattle.rebac.specs.Paths.{Graph, has}
-use Rattle.rebac.specs.Options.{isSome, orElse}
+use Rattle.rebac.specs.Options.{orElse}
 use Rattle.rebac.specs.Forms.{Place, exactly, from, allows, free, fixedThenFree, form, placeGraph, findForm, leastSymbol, complete, nextSameLength, firstLonger}
 use Rattle.rebac.proofs.MatterLaws.{graph-equal}
-use Rattle.rebac.proofs.FormLaws.{symbol-none-iff, symbol-below, same-end, same-step}
+use Rattle.rebac.proofs.FormLaws.{symbol-none-iff, symbol-below, same-step}
 use Rattle.paths.specs.Word.{symbolsIn}
 use Rattle.paths.specs.Search.{placeOn, maskGraph, formOf, FoundAs}
 use Rattle.paths.specs.Ask.{tableGraph, searchPair}

@@ -2,32 +2,31 @@
 -- Assumes nothing.
 use mathlib.Core.Path.{_≡_, refl, sym, ap, _∙_}
 use mathlib.Core.Bool.{Bool, true, false, not, _&&_, _||_}
-use mathlib.Core.List.{List, [], _∷_, List·Memᴰ}
+use mathlib.Core.List.{List, [], _∷_}
 use mathlib.Core.Logic.{by-cases}
 use mathlib.Core.Option.{Option, none, some}
 use Prim.Native.Nat.{ℕ, zero, suc, _+_, _-_, _≤_, _<_}
 use native.Mathlib.Decide.{ℕ-discrete}
 use native.Mathlib.Omega.{arith}
 use native.Mathlib.Numerals.{add-one}
-use native.Mathlib.Nat.{min-le-left}
 use lib.Dec.{eqb, ltb}
-use lib.ListN.{getD, take, drop, length, set, length-set, length-take, drop-of-length-le}
+use lib.ListN.{getD, drop, length, set, length-set, length-take, drop-of-length-le}
 use lib.Seq.{drop-cons, getD-take, getD-set-same, getD-set-other}
 use borrow.Author.Tests.{eq-eqb, ne-eqb, ltb-true, ltb-false}
-use Rattle.lists.specs.Lists.{anyOf, filterBy, member, range, upFrom}
+use Rattle.lists.specs.Lists.{filterBy, member, range, upFrom}
 use Rattle.lists.specs.Order.{headOf}
-use Rattle.lists.proofs.Cases.{by-test, by-found, both, and-both, and-false, and-left}
+use Rattle.lists.proofs.Cases.{by-test, both}
 use Rattle.lists.proofs.ListLaws.{filter-in, filter-out, member-in, member-out, range-in}
 use Rattle.masks.specs.Mask.{testBit, withBit}
 use Rattle.masks.specs.Table.{maskAt}
 use Rattle.masks.specs.declared.Table.{Table}
 use Rattle.masks.proofs.BitLaws.{test-with-same, test-with-other}
-use Rattle.rebac.specs.Paths.{Graph, routes}
-use Rattle.rebac.specs.Forms.{Place, exactly, from}
+use Rattle.rebac.specs.Paths.{routes}
+use Rattle.rebac.specs.Forms.{Place, from}
 use Rattle.rebac.specs.Options.{given, isSome, orElse, firstSome}
 use Rattle.rebac.specs.Marked.{onto, Marks, leastMarked}
 use Rattle.rebac.proofs.MarkedLaws.{marked-least, least-last, least-seen}
-use Rattle.paths.specs.Word.{symbolsIn, Short}
+use Rattle.paths.specs.Word.{symbolsIn}
 use Rattle.paths.specs.Search.{placeOn, pickPlace, placeAt, maskGraph, formOf, searchFrom, placesFrom, visitAll, FoundAs}
 use Rattle.paths.specs.declared.word.Word.{Word}
 use Rattle.paths.specs.declared.search.Found.{Found}

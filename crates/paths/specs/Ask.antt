@@ -1,11 +1,8 @@
 -- A search for a pair of parties.
 use Prim.Native.Nat.{ℕ, _≤_, _<_}
 use mathlib.Core.Path.{_≡_}
-use mathlib.Core.List.{List, List·Memᴰ}
-use mathlib.Core.Bool.{true}
+use mathlib.Core.List.{List}
 use mathlib.Core.Option.{Option}
-use lib.Dec.{ltb}
-use Rattle.lists.specs.Order.{Ascending}
 use Rattle.masks.specs.Mask.{testBit, withBit}
 use Rattle.masks.specs.Table.{maskAt}
 use Rattle.masks.specs.declared.Table.{Table}

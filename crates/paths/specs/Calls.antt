@@ -1,10 +1,10 @@
 -- The path and next-word calls (01, "The calls"): what each answers and writes, for any bytes, parties, word and output.
 use Prim.Native.Nat.{ℕ, _+_}
-use mathlib.Core.Bool.{Bool, true, false, not, _&&_, _||_}
+use mathlib.Core.Bool.{Bool, not, _&&_}
 use mathlib.Core.List.{List, _++_}
 use mathlib.Core.Option.{Option, none, some}
 use lib.ListN.{length, drop}
-use lib.Dec.{eqb, ltb, leb}
+use lib.Dec.{eqb, leb}
 use Rattle.lists.specs.Lists.{allOf}
 use Rattle.rebac.specs.Matter.{Matter, pair}
 use Rattle.rebac.specs.Paths.{leastPath}

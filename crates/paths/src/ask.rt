@@ -1,6 +1,6 @@
 // A search for a pair, and the word test.
 ghost use mathlib.Core.Path.{_≡_};
-ghost use Prim.Native.Nat.{_≤_, _<_};
+ghost use Prim.Native.Nat.{_<_};
 ghost use Rattle.masks.specs.Mask.{withBit};
 ghost use Rattle.rebac.specs.Matter.{pair};
 ghost use Rattle.rebac.specs.Paths.{has};

@@ -1,7 +1,7 @@
 // 01's path and next-word calls: file, pair, word and lent output in, any of them wrong or right.
 ghost use mathlib.Core.Path.{_≡_};
 ghost use mathlib.Core.Bool.{_&&_};
-ghost use Prim.Native.Nat.{ℕ, _≤_};
+ghost use Prim.Native.Nat.{_≤_};
 ghost use lib.ListN.{length};
 ghost use lib.Dec.{leb};
 ghost use Rattle.lists.specs.Lists.{allOf};
@@ -9,7 +9,7 @@ ghost use Rattle.rebac.specs.Matter.{Matter};
 ghost use Rattle.graph.specs.Archive.{Shows};
 ghost use Rattle.graph.specs.Legal.{legalSymbol};
 ghost use Rattle.paths.specs.Word.{symbolsIn};
-ghost use Rattle.paths.specs.Calls.{Answer, replyOf, outputOf, legalWord, pathIn, nextIn, pathCall, nextCall};
+ghost use Rattle.paths.specs.Calls.{replyOf, outputOf, pathIn, nextIn, pathCall, nextCall};
 use crate::ask::search_pair;
 use crate::next::next_word;
 use crate::word::Word;

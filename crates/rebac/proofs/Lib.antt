@@ -15,3 +15,4 @@ pub mod FormLaws
 pub mod SearchLaws
 pub mod MatterLaws
 pub mod MarkedLaws
+pub mod OptionLaws

@@ -12,7 +12,7 @@ use borrow.Author.Tests.{eqb-true, eqb-false, ne-eqb, not-true, ltb-true}
 use Rattle.lists.specs.Lists.{filterBy, flatMap, upFrom, range}
 use Rattle.lists.specs.Order.{Ascending, sumOf}
 use Rattle.lists.proofs.Cases.{by-test}
-use Rattle.lists.proofs.ListLaws.{filter-in, filter-out, flat-in, flat-out, map-in, map-out, range-in, range-out}
+use Rattle.lists.proofs.ListLaws.{filter-in, filter-out, flat-in, flat-out, map-in, map-out, range-in, range-out, up-length}
 use Rattle.lists.proofs.OrderLaws.{ascending-append, ascending-filter, range-ascending, length-map, length-flat}
 use Rattle.rebac.specs.Matter.{Pair, pair, IsPair, pairBefore, pairsOf}
 use Rattle.rebac.proofs.LexOrder.{by-first, first-lower, first-same}
@@ -74,11 +74,6 @@ row-length a s (suc k) l u =
     by-test (eqb a s)
     (λ e. let q : a ≡ s = eqb-true a s e in rw (e, filterBy) (ap suc (above a (suc s) k (omega arith))))
     (λ e. let q : a ≡ s → ⊥ = eqb-false a s e in rw (e, filterBy) (ap suc (row-length a (suc s) k (omega (arith, q)) (omega arith))))
-
-up-length : (a k : ℕ) → length (upFrom a k) ≡ k
-unfolding upFrom
-up-length a zero = refl
-up-length a (suc k) = ap suc (up-length (suc a) k)
 
 sum-const : {A : Type 0} (f : A → ℕ) (c : ℕ) (l : List A) → ((x : A) → List·Memᴰ x l → f x ≡ c) → sumOf f l ≡ length l * c
 unfolding sumOf

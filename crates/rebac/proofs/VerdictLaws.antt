@@ -43,7 +43,7 @@ module _ {P W : Type 0} (S : Problem P W) where
   unfolding rival
   judge-not-covered p e q m u = rw u at (judge-no-rival p e q m)
 
-  is-convertible : (v : Verdict P) → isConvertible S v ≡ true → v ≡ convertible
+  pub is-convertible : (v : Verdict P) → isConvertible S v ≡ true → v ≡ convertible
   is-convertible convertible e = refl
   is-convertible (noWord p) e = clash (sym e)
   is-convertible (rivalled p q) e = clash (sym e)

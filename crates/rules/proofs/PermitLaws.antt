@@ -1,12 +1,11 @@
 -- The permit call step by step: pair, list, answer; over the masks that stand for the matter. Assumes nothing.
-use mathlib.Core.Path.{_≡_, refl, sym, ap, _∙_}
+use mathlib.Core.Path.{_≡_, sym, ap, _∙_}
 use mathlib.Core.Bool.{Bool, true, false}
 use mathlib.Core.List.{List}
-use mathlib.Core.Option.{Option, none, some}
+use mathlib.Core.Option.{some}
 use Prim.Native.Nat.{ℕ, _≤_}
 use native.Mathlib.Omega.{arith}
 use Rattle.lists.specs.Lists.{allOf}
-use Rattle.lists.proofs.Cases.{both}
 use Rattle.lists.proofs.ListLaws.{any-same}
 use Rattle.rebac.specs.Matter.{Matter, pair}
 use Rattle.rebac.specs.Paths.{Graph, has}
@@ -23,20 +22,13 @@ use Rattle.graph.specs.Legal.{isPair}
 use Rattle.rules.specs.declared.call.PermitReply.the-variants.{Refused}
 use Rattle.rules.proofs.RoundTrip.{encode-decode}
 use Rattle.rules.proofs.PlaceLaws.{list-legal-fits}
+use Rattle.rebac.proofs.OptionLaws.{some-of, none-of}
 
 -- bytes that decode are those of a list that fits
 pub list-is : (labels language longest : ℕ) → labels ≤ 8 → longest ≤ 31 → (b : List ℕ) → Bytes b → (l : List (List (List ℕ))) → decodeList labels language longest b ≡ some l → IsList b l
 list-is labels language longest few short b h l e =
     let k = encode-decode labels language longest b h l e in
     record { bytes = sym (k .bytes); fits = list-legal-fits labels language longest few short l (k .legal) }
-
-some-of : {A : Type 0} (o : Option A) → isSome o ≡ true → (x : A) × (o ≡ some x)
-some-of none e = both {b = false} (e) refl
-some-of (some x) e = (x, refl)
-
-none-of : {A : Type 0} (o : Option A) → isSome o ≡ false → o ≡ none
-none-of none e = refl
-none-of (some x) e = both {b = true} refl e
 
 -- bytes that passed an archive's check decode to a list, and are that list's
 record Checked (M : Matter) (a : Archive) (list : List ℕ) : Type 0 where

@@ -7,7 +7,6 @@ ghost use Rattle.rebac.specs.Matter.{Matter, IsPair, pair};
 ghost use Rattle.graph.specs.Archive.{Shows};
 ghost use Rattle.rules.specs.Reading.{TermAt, SomeTerm, IsList, SomeList};
 ghost use Rattle.rules.specs.Permit.{permitIn, permitReply, meetsTerm, meetsList};
-ghost use Rattle.graph.specs.Legal.{isPair};
 use crate::check::check_list;
 use crate::read::read_word;
 use graph::Archive;

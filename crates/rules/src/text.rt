@@ -1,6 +1,6 @@
 // The text of a rule list, as permitconv prints it.
 ghost use mathlib.Core.Path.{_≡_};
-ghost use mathlib.Core.List.{List, _++_, _∷_, []};
+ghost use mathlib.Core.List.{List, _++_, []};
 ghost use Prim.Native.Nat.{ℕ, _+_, _*_, _-_, _≤_, _<_};
 ghost use lib.ListN.{length, drop};
 ghost use Rattle.house_file.specs.Check.{pick};

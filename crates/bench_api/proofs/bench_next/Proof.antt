@@ -1,5 +1,5 @@
 -- An accepted file stands for its matter.
-use mathlib.Core.Path.{_≡_, sym, _∙_}
+use mathlib.Core.Path.{sym, _∙_}
 use Rattle.graph.specs.Archive.{matterOf}
 use borrow.Author.Needs.{needs}
 use Rattle.bench_api.proofs.bench_next.Statement.{statement}

@@ -1,11 +1,7 @@
 -- A pair and a word that passed may be searched for.
 use mathlib.Core.Path.{_≡_, sym, _∙_}
-use native.Mathlib.Omega.{arith}
 use lib.ListN.{length}
-use Rattle.rebac.specs.Matter.{Matter}
-use Rattle.paths.specs.Word.{Short}
-use Rattle.paths.specs.Ask.{Query}
-use Rattle.paths.proofs.CallLaws.{query-of, shown-pair, shown-legal, legal-short, legal-length}
+use Rattle.paths.proofs.CallLaws.{query-of, shown-pair, shown-legal, legal-short}
 use borrow.Author.Needs.{needs}
 use Rattle.bench_api.proofs.has.Statement.{statement}
 use Rattle.bench_api.proofs.has.Tie as tie

@@ -1,6 +1,4 @@
 -- The steps that are left fall.
-use Prim.Native.Nat.{_-_, _≤_}
-use lib.ListN.{length}
 use borrow.Author.Needs.{needs}
 use Rattle.bench_api.proofs.walk.Statement.{statement}
 use Rattle.bench_api.proofs.walk.Tie as tie

@@ -1,12 +1,12 @@
 -- The rows of the parties passed are filled, the others empty.
-use mathlib.Core.Path.{_≡_, sym, ap, _∙_}
+use mathlib.Core.Path.{_≡_, sym, _∙_}
 use mathlib.Core.Logic.{by-cases}
 use Prim.Native.Nat.{ℕ, _-_, _≤_, _<_}
 use native.Mathlib.Decide.{ℕ-discrete, decLt}
 use borrow.Author.Needs.{needs}
 use native.Mathlib.Omega.{arith}
 use Rattle.masks.specs.Mask.{testBit}
-use Rattle.masks.specs.Table.{maskIn, maskAt}
+use Rattle.masks.specs.Table.{maskAt}
 use Rattle.masks.proofs.MaskLaws.{zero-bit}
 use Rattle.rebac.specs.Matter.{Matter}
 use Rattle.rebac.specs.Symbols.{holds}

@@ -1,6 +1,6 @@
 -- The masks of the parties passed are filled, the others empty.
 use borrow.Author.Needs.{needs}
-use mathlib.Core.Path.{_≡_, sym, ap, _∙_}
+use mathlib.Core.Path.{_≡_, sym, _∙_}
 use mathlib.Core.Logic.{⊎-elim, by-cases}
 use Prim.Native.Nat.{ℕ, _-_, _≤_, _<_}
 use native.Mathlib.Decide.{ℕ-discrete, decLt}

@@ -1,13 +1,12 @@
 -- The house that was read stands for the file's matter.
 use mathlib.Core.Path.{_≡_, sym, ap, _∙_}
-use Prim.Native.Nat.{ℕ, _≤_}
 use native.Mathlib.Omega.{arith}
 use Rattle.house_file.specs.Check.{checkOf}
 use Rattle.house_file.specs.declared.header.Header.{Header}
 use Rattle.house_file.specs.declared.reply.Check.the-variants.{Accepted}
 use Rattle.house_file.proofs.DecodeLaws.{refused-not}
 use Rattle.graph.specs.Archive.{matterOf, Records}
-use Rattle.graph.proofs.LoadLaws.{accepted-limits, accepted-records}
+use Rattle.graph.proofs.LoadLaws.{accepted-records}
 use borrow.Author.Needs.{needs}
 use Rattle.graph.proofs.load.Statement.{statement}
 use Rattle.graph.proofs.load.Tie as tie

@@ -1,8 +1,8 @@
 -- The mask is filled symbol by symbol.
 use borrow.Author.Needs.{needs}
-use mathlib.Core.Path.{_≡_, sym, ap, _∙_}
+use mathlib.Core.Path.{_≡_, sym, _∙_}
 use mathlib.Core.Logic.{⊎-elim}
-use Prim.Native.Nat.{ℕ, _-_, _*_, _≤_, _<_}
+use Prim.Native.Nat.{_-_, _*_, _≤_}
 use native.Mathlib.Omega.{arith}
 use Rattle.masks.proofs.MaskLaws.{Filled, filled-none, filled-with, filled-without}
 use Rattle.graph.specs.Archive.{symbolIn}

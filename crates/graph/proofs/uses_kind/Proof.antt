@@ -1,9 +1,6 @@
 -- Each language has its law.
-use mathlib.Core.Path.{_≡_, sym, ap, _∙_}
-use Prim.Native.Nat.{ℕ}
+use mathlib.Core.Path.{_≡_}
 use native.Mathlib.Omega.{arith}
-use Rattle.lists.specs.Lists.{member}
-use Rattle.rebac.specs.Symbols.{kinds}
 use Rattle.graph.proofs.SymbolLaws.{kinds-0, kinds-1, kinds-2, kinds-3}
 use Rattle.graph.proofs.uses_kind.Statement.{statement}
 use Rattle.graph.proofs.uses_kind.Tie as tie

@@ -1,6 +1,5 @@
 -- One row is stored; the others stay.
 use mathlib.Core.Path.{_≡_, sym, ap, _∙_}
-use Prim.Native.Nat.{ℕ}
 use native.Mathlib.Omega.{arith}
 use lib.ListN.{length, length-map}
 use Rattle.masks.specs.Table.{noRow, maskIn}

@@ -1,5 +1,5 @@
 -- Bytes that passed the check are those of a list.
-use mathlib.Core.Path.{_≡_, sym, _∙_}
+use mathlib.Core.Path.{sym, _∙_}
 use native.Mathlib.Omega.{arith}
 use borrow.Author.Tests.{not-false}
 use lib.Seq.{length-take-le}

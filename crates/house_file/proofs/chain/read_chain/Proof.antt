@@ -1,17 +1,17 @@
 -- Each turn is one turn of the definition (ChainLaws); the marks that are clear fall.
 use borrow.Author.Needs.{needs}
-use mathlib.Core.Path.{_≡_, refl, sym, ap, _∙_}
+use mathlib.Core.Path.{_≡_, sym, ap, _∙_}
 use mathlib.Core.List.{List}
 use mathlib.Core.Bool.{true}
 use Prim.Native.Nat.{ℕ, suc, _-_, _≤_, _<_}
 use native.Mathlib.Omega.{arith}
 use lib.ListN.{length-set}
-use Rattle.house_file.proofs.RecordLaws.{Passed, kind-small, bit-small, target-below}
+use Rattle.house_file.proofs.RecordLaws.{kind-small, bit-small, target-below}
 use lib.ListN.{length, set}
 use Rattle.house_file.specs.Layout.{headerOf, partiesOf, labelsOf, recordsOf, recordOf}
 use Rattle.house_file.specs.Check.{legalKind}
 use Rattle.house_file.specs.declared.header.Header.{Header}
-use Rattle.house_file.specs.declared.reply.Check.the-variants.{Accepted, Refused}
+use Rattle.house_file.specs.declared.reply.Check.the-variants.{Accepted}
 use Rattle.house_file.specs.Reading.{Marks}
 use Rattle.house_file.proofs.Clear.{clear}
 use Rattle.house_file.proofs.ChainLaws.{Here, judged, here-start, here-end, here-link, here-refused, here-next, tests, clearer, unlike}

@@ -1,14 +1,12 @@
 -- The first tests have their laws; then the chains, and the permits from the kinds.
-use mathlib.Core.Path.{_≡_, refl, sym, ap, _∙_}
-use mathlib.Core.Bool.{true, false}
-use Prim.Native.Nat.{ℕ, _≤_, _<_}
+use mathlib.Core.Path.{_≡_, sym, ap, _∙_}
+use mathlib.Core.Bool.{true}
 use native.Mathlib.Omega.{arith}
 use borrow.Author.Tests.{not-true, not-false}
 use lib.ListN.{length}
-use Rattle.house_file.specs.Layout.{headerOf, sizeOf, partiesOf, recordsOf, labelsOf, permitKind}
+use Rattle.house_file.specs.Layout.{sizeOf, partiesOf, recordsOf, labelsOf, permitKind}
 use Rattle.house_file.specs.Check.{fieldsInRange, checkOf, chainsCheck}
 use Rattle.house_file.specs.Meaning.{FieldsRight, isPermitted}
-use Rattle.house_file.specs.Reading.{Framed}
 use Rattle.house_file.specs.declared.header.Header.{Header}
 use Rattle.house_file.proofs.RecordLaws.{permit-legal}
 use Rattle.house_file.proofs.DecodeLaws.{refused-not}

@@ -1,12 +1,10 @@
 -- Each turn is one chain of the definition (DecodeLaws).
-use mathlib.Core.Path.{_≡_, refl, sym, ap, _∙_}
-use mathlib.Core.Bool.{true, false, not}
+use mathlib.Core.Path.{_≡_, sym, ap, _∙_}
+use mathlib.Core.Bool.{true, false}
 use Prim.Native.Nat.{ℕ, _-_, _≤_, _<_}
-use native.Mathlib.Omega.{arith}
 use borrow.Author.Needs.{needs}
 use lib.ListN.{length, length-replicate}
-use Rattle.house_file.specs.Layout.{headerOf, partiesOf, recordsOf}
-use Rattle.house_file.specs.Check.{replyOf, Walk, stopped, passed}
+use Rattle.house_file.specs.Layout.{partiesOf, recordsOf}
 use Rattle.house_file.specs.Reading.{chainWalk, everyReached}
 use Rattle.house_file.specs.declared.header.Header.{Header}
 use Rattle.house_file.proofs.DecodeLaws.{Upto, upto-start, upto-refused, upto-next, upto-end, upto-kinds, stopped-of, passed-of, refused-not}

@@ -1,5 +1,5 @@
 -- Each outcome is that of the tests that led to it.
-use borrow.Author.Tests.{lt-ltb, le-ltb, lt-leb, le-leb, eq-eqb, ne-eqb}
+use borrow.Author.Tests.{lt-leb, le-leb}
 use Rattle.house_file.proofs.header.in_range.Statement.{statement}
 use Rattle.house_file.proofs.header.in_range.Tie as tie
 

@@ -1,5 +1,4 @@
 -- Two bytes, each below 256.
-use Prim.Native.Nat.{_+_}
 use native.Mathlib.Omega.{arith}
 use Rattle.house_file.specs.Layout.{u16At}
 use borrow.Author.Needs.{needs}

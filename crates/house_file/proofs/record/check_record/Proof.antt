@@ -5,10 +5,7 @@ use lib.Dec.{eqb}
 use Prim.Native.Nat.{_<_}
 use native.Mathlib.Omega.{arith}
 use borrow.Author.Tests.{eq-eqb, ne-eqb, not-true, not-false}
-use Rattle.masks.specs.Mask.{testBit}
-use Rattle.masks.specs.Table.{maskIn}
 use Rattle.house_file.specs.Check.{legalTarget, legalKind}
-use Rattle.house_file.specs.Decoded.{bitOf}
 use Rattle.house_file.proofs.RecordLaws.{judge-again, judge-target, judge-kind, judge-repeat, judge-accepts, target-below, kind-small, bit-small}
 use borrow.Author.Needs.{needs}
 use Rattle.house_file.proofs.record.check_record.Statement.{statement}

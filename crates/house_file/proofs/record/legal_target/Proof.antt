@@ -1,5 +1,5 @@
 -- Each outcome is that of the test that led to it.
-use borrow.Author.Tests.{lt-ltb, le-ltb, lt-leb, le-leb, eq-eqb, ne-eqb}
+use borrow.Author.Tests.{lt-ltb, le-ltb}
 use Rattle.house_file.proofs.record.legal_target.Statement.{statement}
 use Rattle.house_file.proofs.record.legal_target.Tie as tie
 

@@ -1,10 +1,8 @@
 -- With every symbol fixed the search is the word test.
-use mathlib.Core.Path.{_≡_, sym, ap, _∙_}
-use Prim.Native.Nat.{ℕ, _≤_}
+use mathlib.Core.Path.{_≡_, ap, _∙_}
 use native.Mathlib.Omega.{arith}
 use lib.ListN.{length}
 use Rattle.rebac.specs.Matter.{pair}
-use Rattle.rebac.specs.Options.{isSome}
 use Rattle.rebac.specs.Paths.{has}
 use Rattle.paths.specs.Word.{symbolsIn}
 use Rattle.masks.specs.Mask.{withBit}

@@ -1,10 +1,9 @@
 -- A word of no symbols and one of n or more have no path; any other is searched from place 0.
-use mathlib.Core.Path.{_≡_, refl, sym, ap, _∙_}
-use mathlib.Core.List.{List, []}
-use Prim.Native.Nat.{ℕ, _-_, _≤_}
+use mathlib.Core.Path.{_≡_, ap, _∙_}
+use mathlib.Core.List.{[]}
+use Prim.Native.Nat.{_-_}
 use native.Mathlib.Omega.{arith}
 use lib.ListN.{length}
-use Rattle.rebac.specs.Forms.{Place}
 use Rattle.paths.specs.Word.{symbolsIn}
 use Rattle.paths.specs.Search.{formOf}
 use Rattle.paths.specs.Ask.{searchPair}

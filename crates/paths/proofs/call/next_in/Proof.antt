@@ -1,19 +1,14 @@
 -- Each refusal has its law; the searches give the next word.
 use mathlib.Core.Path.{_≡_, refl, sym, ap, _∙_}
-use mathlib.Core.Bool.{true, false, _&&_}
-use mathlib.Core.List.{List, _∷_, _++_}
-use mathlib.Core.Option.{Option, none, some}
-use Prim.Native.Nat.{ℕ, _+_, _≤_, _<_}
+use mathlib.Core.Bool.{true}
 use native.Mathlib.Omega.{arith}
 use borrow.Author.Tests.{not-true, not-false}
-use lib.ListN.{length, take, drop, set}
+use lib.ListN.{length}
 use Rattle.rebac.specs.Matter.{Matter, pair}
 use Rattle.graph.specs.Archive.{Shows}
 use Rattle.graph.specs.Legal.{isPair}
 use Rattle.paths.specs.Word.{symbolsIn, Short}
-use Rattle.paths.specs.Calls.{Answer, writes, replyOf, outputOf, found, legalWord}
-use Rattle.paths.specs.declared.word.Word.{Word}
-use lib.Seq.{length-take-le}
+use Rattle.paths.specs.Calls.{found, legalWord}
 use Rattle.rebac.specs.NextWord.{nextWord}
 use Rattle.paths.specs.Next.{NextAs}
 use Rattle.paths.specs.declared.call.Reply.the-variants.{Wrote}

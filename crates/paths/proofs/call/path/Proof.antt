@@ -1,10 +1,9 @@
 -- The file's refusals come first; an accepted file stands for its matter.
-use mathlib.Core.Path.{_≡_, refl, sym, ap, _∙_}
-use lib.ListN.{length}
+use mathlib.Core.Path.{_≡_, refl, sym, _∙_}
 use Rattle.house_file.specs.Check.{checkOf}
-use Rattle.house_file.specs.declared.reply.Check.the-variants.{Accepted, Refused}
+use Rattle.house_file.specs.declared.reply.Check.the-variants.{Accepted}
 use Rattle.graph.specs.Archive.{matterOf, Shows}
-use Rattle.paths.specs.Calls.{Answer, refuses, replyOf, outputOf, pathIn, pathCall}
+use Rattle.paths.specs.Calls.{pathCall}
 use borrow.Author.Needs.{needs}
 use Rattle.paths.proofs.call.path.Statement.{statement}
 use Rattle.paths.proofs.call.path.Tie as tie

@@ -1,18 +1,16 @@
 -- Each refusal has its law; the search gives the least path, and the visited mask its number of parties.
 use mathlib.Core.Path.{_≡_, refl, sym, ap, _∙_}
-use mathlib.Core.Bool.{true, false, _&&_}
-use mathlib.Core.List.{List, _∷_, _++_}
-use mathlib.Core.Option.{Option, none, some}
-use Prim.Native.Nat.{ℕ, _+_, _≤_, _<_}
+use mathlib.Core.Bool.{true}
+use mathlib.Core.List.{List, _∷_}
+use Prim.Native.Nat.{ℕ, _+_}
 use native.Mathlib.Omega.{arith}
 use borrow.Author.Tests.{not-true, not-false}
-use lib.ListN.{length, take, drop, set}
-use Rattle.rebac.specs.Matter.{Matter, pair}
+use lib.ListN.{length, take, set}
+use Rattle.rebac.specs.Matter.{Matter}
 use Rattle.graph.specs.Archive.{Shows}
 use Rattle.graph.specs.Legal.{isPair}
-use Rattle.paths.specs.Word.{symbolsIn, Short}
-use Rattle.paths.specs.Calls.{Answer, writes, replyOf, outputOf, found, legalWord}
-use Rattle.paths.specs.declared.word.Word.{Word}
+use Rattle.paths.specs.Word.{Short}
+use Rattle.paths.specs.Calls.{found, legalWord}
 use Rattle.paths.specs.declared.call.Reply.the-variants.{Wrote}
 use lib.Count.{ones}
 use Rattle.paths.proofs.CallLaws.{query-of, pair-of, shown-pair, shown-legal, legal-short, path-pair, path-word, path-empty, path-short, path-answer, PathFound, path-found, path-not, copied}

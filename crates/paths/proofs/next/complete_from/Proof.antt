@@ -1,18 +1,14 @@
 -- A search from the floor on that finds nothing shows that there is no such word; else the least symbol, and the rest.
 use mathlib.Core.Path.{_≡_, refl, sym, ap, _∙_}
-use mathlib.Core.Bool.{true, false}
 use mathlib.Core.List.{List, [], _∷_, _++_, append-assoc}
-use mathlib.Core.Option.{some}
 use Prim.Native.Nat.{ℕ, _+_}
-use native.Mathlib.Omega.{arith}
 use lib.ListN.{length, replicate, length-append}
 use Rattle.masks.specs.Mask.{withBit}
 use Rattle.rebac.specs.Matter.{pair}
 use Rattle.rebac.specs.Forms.{findForm, form}
-use Rattle.paths.specs.Word.{symbolsIn}
 use Rattle.paths.specs.Search.{formOf}
 use Rattle.paths.specs.Ask.{tableGraph}
-use Rattle.paths.specs.Next.{Alphabet, Places, NextAs}
+use Rattle.paths.specs.Next.{Alphabet, Places}
 use Rattle.paths.proofs.NextLaws.{found-form, form-floor-at, least-there, least-gone, least-is, complete-step, complete-none}
 use borrow.Author.Needs.{needs}
 use Rattle.paths.proofs.next.complete_from.Statement.{statement}

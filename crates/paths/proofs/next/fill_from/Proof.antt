@@ -1,8 +1,8 @@
 -- One place is done each turn (NextLaws).
-use mathlib.Core.Path.{_≡_, refl, sym, ap, _∙_}
+use mathlib.Core.Path.{_≡_, refl, _∙_}
 use mathlib.Core.Bool.{true}
 use mathlib.Core.List.{List, _++_}
-use Prim.Native.Nat.{ℕ, _+_, _-_, _≤_, _<_}
+use Prim.Native.Nat.{ℕ, _+_, _-_}
 use native.Mathlib.Omega.{arith}
 use borrow.Author.Needs.{needs}
 use lib.ListN.{length, replicate}
@@ -11,7 +11,6 @@ use Rattle.rebac.specs.Forms.{findForm, fixedThenFree}
 use Rattle.paths.specs.Word.{symbolsIn, Short}
 use Rattle.paths.specs.Ask.{tableGraph}
 use Rattle.paths.specs.Next.{Alphabet}
-use Rattle.paths.specs.declared.word.Word.{Word}
 use Rattle.paths.proofs.SearchLaws.{symbols-length}
 use Rattle.paths.proofs.NextLaws.{Filling, filling-next, filling-end}
 use Rattle.paths.proofs.next.fill_from.Statement.{statement}

@@ -1,10 +1,9 @@
 -- The symbol tried is never above the least one, and rises by one each turn.
 use mathlib.Core.Path.{_≡_, refl, sym, ap, _∙_}
-use mathlib.Core.Bool.{Bool, true, false}
 use mathlib.Core.List.{List, [], _∷_, _++_}
 use mathlib.Core.Logic.{by-cases}
 use mathlib.Core.Option.{some}
-use Prim.Native.Nat.{ℕ, suc, _+_, _-_, _≤_, _<_}
+use Prim.Native.Nat.{ℕ, _+_, _-_, _≤_}
 use native.Mathlib.Decide.{ℕ-discrete}
 use native.Mathlib.Omega.{arith}
 use lib.Seq.{getD-set-same}
@@ -13,13 +12,12 @@ use lib.ListN.{length, getD}
 use Rattle.lists.proofs.Cases.{both}
 use Rattle.masks.specs.Mask.{withBit}
 use Rattle.rebac.specs.Matter.{pair}
-use Rattle.rebac.specs.Forms.{Place, leastSymbol, findForm, fixedThenFree}
+use Rattle.rebac.specs.Forms.{leastSymbol, findForm, fixedThenFree}
 use Rattle.paths.specs.Word.{symbolsIn, Short}
 use Rattle.paths.specs.Search.{formOf}
-use Rattle.paths.specs.Ask.{tableGraph, searchPair}
+use Rattle.paths.specs.Ask.{tableGraph}
 use Rattle.paths.specs.Next.{Alphabet, Places}
-use Rattle.paths.specs.declared.word.Word.{Word}
-use Rattle.paths.proofs.NextLaws.{found-form, form-fixed-at, Least, least-is, put-places, place-at}
+use Rattle.paths.proofs.NextLaws.{found-form, form-fixed-at, least-is, put-places, place-at}
 use Rattle.paths.proofs.next.least_symbol.Statement.{statement}
 use Rattle.paths.proofs.next.least_symbol.Tie as tie
 

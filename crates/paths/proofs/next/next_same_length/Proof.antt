@@ -1,21 +1,18 @@
 -- The places below i are kept, those from i on are zeros, and no later place has led to a word.
 use mathlib.Core.Path.{_≡_, refl, sym, ap, _∙_}
-use mathlib.Core.Bool.{true, false}
-use mathlib.Core.List.{List, [], _++_, append-nil}
-use mathlib.Core.Option.{Option, none, some}
-use Prim.Native.Nat.{ℕ, zero, suc, _+_, _-_, _≤_, _<_}
+use mathlib.Core.List.{List, _++_, append-nil}
+use mathlib.Core.Option.{none}
+use Prim.Native.Nat.{ℕ, _+_, _-_, _≤_, _<_}
 use native.Mathlib.Omega.{arith}
 use borrow.Author.Needs.{needs}
 use lib.ListN.{length, take, drop, replicate, getD}
 use lib.Seq.{take-all}
 use Rattle.rebac.specs.Matter.{pair}
-use Rattle.rebac.specs.Forms.{complete, nextSameLength}
+use Rattle.rebac.specs.Forms.{nextSameLength}
 use Rattle.rebac.proofs.FormLaws.{same-end}
 use Rattle.paths.specs.Word.{symbolsIn, Short}
 use Rattle.paths.specs.Ask.{tableGraph}
 use Rattle.paths.specs.Next.{Alphabet, NextAs}
-use Rattle.paths.specs.declared.word.Word.{Word}
-use Rattle.paths.specs.declared.next.Next.{Next}
 use Rattle.paths.proofs.SearchLaws.{symbols-length}
 use Rattle.paths.proofs.NextLaws.{same-up, same-here, Kept, kept-last, kept-length, kept-fewer, put-places, next-not, next-some, next-as}
 use Rattle.paths.proofs.next.next_same_length.Statement.{statement}

@@ -1,15 +1,12 @@
 -- First the words of the same length, then the longer ones.
-use mathlib.Core.Path.{_≡_, refl, sym, ap, _∙_}
-use mathlib.Core.List.{List, []}
-use Prim.Native.Nat.{ℕ, _-_}
+use mathlib.Core.Path.{_≡_}
+use mathlib.Core.List.{[]}
 use native.Mathlib.Omega.{arith}
 use lib.ListN.{length}
 use Rattle.rebac.specs.Matter.{pair}
-use Rattle.rebac.specs.Options.{orElse}
-use Rattle.rebac.specs.Forms.{searchNext, nextSameLength, firstLonger}
+use Rattle.rebac.specs.Forms.{searchNext, nextSameLength}
 use Rattle.paths.specs.Word.{symbolsIn}
 use Rattle.paths.specs.Ask.{tableGraph}
-use Rattle.paths.specs.Next.{Alphabet, NextAs}
 use Rattle.paths.proofs.SearchLaws.{symbols-length}
 use Rattle.paths.proofs.NextLaws.{next-not, next-some, next-as, or-found}
 use borrow.Author.Needs.{needs}

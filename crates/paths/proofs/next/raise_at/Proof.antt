@@ -1,14 +1,9 @@
 -- A symbol of 31 has none above it.
-use mathlib.Core.Path.{_≡_, refl, sym, ap, _∙_}
-use mathlib.Core.List.{List}
-use Prim.Native.Nat.{ℕ, suc, _+_}
+use mathlib.Core.Path.{_≡_}
+use Prim.Native.Nat.{suc, _+_}
 use native.Mathlib.Omega.{arith}
 use native.Mathlib.Numerals.{add-one}
-use lib.ListN.{length, getD}
-use Rattle.rebac.specs.Matter.{pair}
-use Rattle.rebac.specs.Forms.{complete}
-use Rattle.paths.specs.Ask.{tableGraph}
-use Rattle.paths.specs.Next.{Alphabet, Places, NextAs}
+use lib.ListN.{getD}
 use Rattle.paths.proofs.NextLaws.{put-places, place-at, complete-high}
 use borrow.Author.Needs.{needs}
 use Rattle.paths.proofs.next.raise_at.Statement.{statement}

@@ -1,8 +1,6 @@
 -- Every symbol of a repeat of 0 is 0.
-use mathlib.Core.Path.{_≡_, refl, ap, _∙_}
-use Prim.Native.Nat.{ℕ}
+use mathlib.Core.Path.{refl}
 use native.Mathlib.Omega.{arith}
-use lib.ListN.{replicate, length-replicate}
 use Rattle.masks.proofs.TableLaws.{getD-zeros}
 use Rattle.paths.proofs.NextLaws.{take-zeros}
 use Rattle.paths.proofs.next.zeros.Statement.{statement}

@@ -1,19 +1,17 @@
 -- Each turn of the loop is a candidate of the definition (SearchLaws), and one that is skipped leads nowhere (WalkLaws); places left fall over the calls, candidates left over the loop.
 use mathlib.Core.Path.{_≡_, refl, sym, ap, _∙_}
-use mathlib.Core.Bool.{Bool, true, false}
 use mathlib.Core.List.{List, [], _∷_}
 use mathlib.Core.Logic.{_⊎_, ⊎-elim}
-use mathlib.Core.Option.{Option, none, some}
+use mathlib.Core.Option.{none}
 use native.Mathlib.Omega.{arith}
-use borrow.Author.Needs.{needs, length-unmapped}
+use borrow.Author.Needs.{needs}
 use lib.ListN.{length, set}
-use Rattle.masks.specs.Mask.{testBit, withBit}
-use Rattle.masks.specs.Table.{maskAt}
+use Rattle.masks.specs.Mask.{withBit}
 use Rattle.masks.proofs.BitLaws.{test-no, test-off, test-on, with-code}
 use Rattle.rebac.specs.Forms.{Place}
 use Rattle.rebac.specs.Marked.{onto}
 use Rattle.lists.proofs.Cases.{both}
-use Rattle.paths.specs.Search.{placeOn, placeAt, placesFrom, searchFrom, FoundAs}
+use Rattle.paths.specs.Search.{placeAt, placesFrom, searchFrom, FoundAs}
 use Rattle.paths.proofs.SearchLaws.{onwards, through, search-start, search-last, onwards-end, onwards-skip, onwards-hit, through-visited, through-not, through-lost, through-on, through-target, places-cons, places-end, found-none, found-not, found-some, found-onto, beyond-search, beyond-last}
 use Rattle.paths.specs.Walk.{Covers}
 use Rattle.paths.specs.declared.search.Found.{Found}

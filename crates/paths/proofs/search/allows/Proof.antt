@@ -1,10 +1,6 @@
 -- A fixed symbol by its bit, a floor by what is left of the mask after the shift.
-use mathlib.Core.Path.{_≡_, sym, ap, _∙_}
-use mathlib.Core.Bool.{Bool, not}
-use lib.Dec.{eqb}
 use borrow.Author.Tests.{lt-ltb, le-ltb}
 use Rattle.masks.proofs.BitLaws.{test-code}
-use Rattle.paths.specs.Search.{placeOn, pickPlace}
 use borrow.Author.Needs.{needs}
 use Rattle.paths.proofs.search.allows.Statement.{statement}
 use Rattle.paths.proofs.search.allows.Tie as tie

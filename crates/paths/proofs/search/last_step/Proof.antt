@@ -1,10 +1,10 @@
 -- The target is visited and written at the place after this one; or one of the two tests failed.
-use mathlib.Core.Path.{_≡_, refl, sym, ap, _∙_}
-use mathlib.Core.Bool.{Bool, true, false, not, _&&_}
+use mathlib.Core.Path.{_≡_, refl, sym, _∙_}
+use mathlib.Core.Bool.{true, false, not, _&&_}
 use mathlib.Core.List.{List, [], _∷_}
 use mathlib.Core.Logic.{⊎-elim}
 use mathlib.Core.Option.{Option, none, some}
-use Prim.Native.Nat.{ℕ, _+_, _*_, _%_, _^_, _<_}
+use Prim.Native.Nat.{ℕ, _+_, _*_, _%_, _^_}
 use lib.Bits.{bitOr}
 use Rattle.rebac.specs.Options.{given}
 use Rattle.paths.specs.declared.search.Found.{Found}
@@ -12,9 +12,9 @@ use native.Mathlib.Omega.{arith}
 use lib.ListN.{replicate, set, length-set}
 use lib.Seq.{getD-set-same}
 use Rattle.lists.proofs.Cases.{and-false}
-use Rattle.masks.specs.Mask.{testBit, withBit}
+use Rattle.masks.specs.Mask.{testBit}
 use Rattle.masks.proofs.BitLaws.{test-no, test-on, with-code}
-use Rattle.paths.specs.Search.{placeOn, placeAt, visitAll, FoundAs}
+use Rattle.paths.specs.Search.{placeOn, placeAt}
 use Rattle.paths.proofs.SearchLaws.{found-last, found-none}
 use borrow.Author.Needs.{needs}
 use Rattle.paths.proofs.search.last_step.Statement.{statement}
