@@ -2,25 +2,24 @@
 use mathlib.Core.Path.{_≡_, refl, sym, ap, _∙_, subst}
 use mathlib.Core.Logic.{_↔_, _⊎_, inl, inr, ⊎-elim}
 use mathlib.Core.Bool.{Bool, true, false, not, _&&_}
-use mathlib.Core.List.{List, [], _∷_, _++_, map, List·Memᴰ, List·Memᴰ·head, List·Memᴰ·tail, List·Memᴰ·not-nil, List·Memᴰ·append-cases, Memᴰ·append-right}
+use mathlib.Core.List.{List, [], _∷_, _++_, map, List·Memᴰ, List·Memᴰ·head, List·Memᴰ·not-nil, List·Memᴰ·append-cases, Memᴰ·append-right}
 use mathlib.Core.Option.{none, some}
 use Prim.Native.Nat.{ℕ, zero, suc, _+_, _*_, _-_, _/_, _%_, _≤_, _<_}
 use native.Mathlib.Omega.{arith}
-use native.Mathlib.Nat.{suc-mul}
 use lib.Dec.{leb}
 use lib.ListN.{length, drop, getD, length-append, length-replicate, replicate, List·getD-append}
 use lib.Seq.{take-append-seam}
-use borrow.Author.Tests.{leb-true, le-leb, lt-leb, lt-ltb, ne-eqb, not-true}
-use Rattle.lists.specs.Lists.{flatMap, upFrom, range}
-use Rattle.lists.specs.Order.{Ascending, sumOf}
+use borrow.Author.Tests.{leb-true, le-leb, lt-leb, not-true}
+use Rattle.lists.specs.Lists.{upFrom, range}
+use Rattle.lists.specs.Order.{Ascending}
 use Rattle.lists.proofs.Cases.{by-test, by-found, by-mem, clash, both, and-both, and-left, and-right}
-use Rattle.lists.proofs.ListLaws.{First, all-in, all-of, map-out}
-use Rattle.lists.proofs.OrderLaws.{length-map, length-flat}
+use Rattle.lists.proofs.ListLaws.{up-length, First, all-in, all-of, map-out}
+use Rattle.lists.proofs.OrderLaws.{length-map}
 use Rattle.rebac.specs.Matter.{Matter, Pair, pair, IsPair, pairsOf, pairBefore, permitted}
 use Rattle.rebac.specs.Words.{Word, lexLess}
 use Rattle.rebac.specs.Paths.{has, leastPath}
 use Rattle.rebac.specs.Symbols.{enlarged}
-use Rattle.rebac.specs.Verdict.{Verdict, convertible, noWord, rivalled, isConvertible, judge, rival, covers, spoils}
+use Rattle.rebac.specs.Verdict.{convertible, noWord, rivalled, isConvertible, judge, rival, covers, spoils}
 use Rattle.rebac.specs.Existence.{problemOf, problemOver, verdictOf, minedList, plainTerm, plainList, permitsPair, Converts, MatterWord, score}
 use Rattle.rebac.specs.NextWord.{pairWords}
 use Rattle.rebac.proofs.SymbolsLaws.{listed-language}
@@ -41,14 +40,15 @@ use Rattle.paths.specs.declared.word.Word.{Word as WordValue}
 use Rattle.paths.specs.declared.call.Reply.the-variants.{Wrote as WrotePath}
 use Rattle.paths.proofs.CallLaws.{pair-of, path-answer}
 use Rattle.rules.specs.Reading.{wordOf}
-use Rattle.rules.specs.ListBytes.{encodeCount, encodeWord, encodeTerm, encodeList}
 use Rattle.rules.specs.Permit.{permitReply, yesOrNo}
 use Rattle.rules.proofs.MatterLists.{legal-symbol, permit-of-mined}
 use Rattle.mining.specs.declared.build.Pair.{Pair as PairValue}
 use Rattle.conversion.specs.declared.verdict.VerdictReply.the-variants as reply
 use Rattle.conversion.specs.Calls.{listOf, bytesOf, replyOf, verdictIn, verdictCall, oneIf, tableOf, miningIn, miningCall, tooShort, writes as writesList}
 use Rattle.conversion.specs.declared.mine.MiningReply.the-variants.{Wrote}
-use Rattle.conversion.proofs.ReplyLaws.{reply-convertible, reply-no-word, reply-rival}
+use Rattle.mining.proofs.GridLaws.{pair-is}
+use Rattle.conversion.proofs.SizeLaws.{term-bound, list-bound}
+use Rattle.conversion.proofs.ReplyLaws.{reply-convertible, reply-no-word, reply-rival, reply-refused}
 use Rattle.conversion.specs.Demands.{pairIn, Carries, HasWord, Wordless, IsRival, Hinders, FirstPair, ShowsPath, MinesList}
 
 -- by the check's reply
@@ -162,10 +162,6 @@ value-legal M v h w c =
 pub value-carries : (v : Word) → length v ≤ 31 → Carries (wordOf v) v × (length (wordOf v .symbols) ≡ 31)
 value-carries v h = (record { len = refl; symbols = take-append-seam v (replicate (31 - length v) 0) }, omega (arith, length-append v (replicate (31 - length v) 0), length-replicate {A = ℕ} (31 - length v) 0))
 
-pair-test : (n : ℕ) (p : Pair) → IsPair n p → isPair n (p .first) (p .second) ≡ true
-unfolding isPair
-pair-test n p h = rw (lt-ltb (p .first) n (h .first), lt-ltb (p .second) n (h .second), ne-eqb (p .first) (p .second) (h .different))
-
 -- a table's byte by its place
 getD-up : (g : ℕ → ℕ) (a k i : ℕ) → i < k → getD (map g (upFrom a k)) i 0 ≡ g (a + i)
 unfolding upFrom
@@ -173,14 +169,9 @@ getD-up g a zero i h = absurd (omega arith)
 getD-up g a (suc k) zero h = let z : a ≡ a + 0 = omega arith in ap g z
 getD-up g a (suc k) (suc i) h = let z : suc a + i ≡ a + suc i = omega arith in getD-up g (suc a) k i (omega arith) ∙ ap g z
 
-length-up : (a k : ℕ) → length (upFrom a k) ≡ k
-unfolding upFrom
-length-up a zero = refl
-length-up a (suc k) = ap suc (length-up (suc a) k)
-
 table-length : (M : Matter) → length (tableOf M) ≡ 1024
 unfolding tableOf range
-table-length M = length-map _ (upFrom 0 1024) ∙ length-up 0 1024
+table-length M = length-map _ (upFrom 0 1024) ∙ up-length 0 1024
 
 table-at : (M : Matter) (a b : ℕ) → a < 32 → b < 32 → getD (tableOf M) (32 * a + b) 0 ≡ oneIf (isPair (M .parties) a b && permitsPair M (listOf M) (pair a b))
 unfolding tableOf range
@@ -190,26 +181,12 @@ table-at M a b p q =
     let m : (0 + (32 * a + b)) % 32 ≡ b = omega arith in
     getD-up g 0 1024 (32 * a + b) (omega arith) ∙ rw (d, m)
 
--- the list's length: at most 992 terms of at most 993 words of at most 31 symbols
-sum-bound : {A : Type 0} (g : A → ℕ) (c : ℕ) (l : List A) → ((x : A) → List·Memᴰ x l → g x ≤ c) → sumOf g l ≤ length l * c
-unfolding sumOf
-sum-bound g c [] h = omega arith
-sum-bound g c (x ∷ l) h = omega (arith, h x (List·Memᴰ·head refl), sum-bound g c l (λ y m. h y (List·Memᴰ·tail m)), suc-mul (length l) c)
-
-term-size : (t : List Word) → length t ≤ 993 → ((w : Word) → List·Memᴰ w t → length w ≤ 31) → length (encodeTerm t) ≤ 31778
-unfolding encodeTerm encodeCount encodeWord
-term-size t n h = omega (arith, length-append (encodeCount (length t)) (flatMap encodeWord t), length-flat encodeWord t, sum-bound (λ w. length (encodeWord w)) 32 t (λ w m. omega (arith, h w m)))
-
-list-size : (l : List (List Word)) → length l ≤ 992 → ((t : List Word) → List·Memᴰ t l → length (encodeTerm t) ≤ 31778) → length (encodeList l) ≤ 2 + 992 * 31778
-unfolding encodeList encodeCount
-list-size l n h = omega (arith, length-append (encodeCount (length l)) (flatMap encodeTerm l), length-flat encodeTerm l, sum-bound (λ t. length (encodeTerm t)) 31778 l h)
-
 pub bytes-bound : (M : Matter) → Limits M → length (bytesOf M) ≤ 2 + 992 * 31778
 unfolding bytesOf listOf
 bytes-bound M k =
-    list-size (plainList (minedList M)) (omega (arith, length-map plainTerm (minedList M), mined-terms-few M (k .parties .1)))
+    list-bound (plainList (minedList M)) (omega (arith, length-map plainTerm (minedList M), mined-terms-few M (k .parties .1)))
     (λ t m. let s = map-out plainTerm (minedList M) m in
-    rw (s .2) (term-size (plainTerm (s .0)) (omega (arith, length-map (λ i. i .word) (s .0), mined-items-few M (k .parties .1) (s .0) (s .1)))
+    rw (s .2) (term-bound (plainTerm (s .0)) (omega (arith, length-map (λ i. i .word) (s .0), mined-items-few M (k .parties .1) (s .0) (s .1)))
     (λ w n. let i = map-out (λ i. i .word) (s .0) n in rw (i .2) (omega (arith, mined-words M (s .0) (s .1) (i .0) (i .1) .short, k .longest .1)))))
 
 -- only an accepted file is convertible
@@ -231,13 +208,8 @@ module _ (f : List ℕ) (e : checkOf f ≡ Accepted) where
   small {p} h = let n = accepted-limits f e .parties .1 in (omega (arith, h .first), omega (arith, h .second))
 
   -- an accepted file is never refused a verdict
-  reply-given : (size : ℕ) (v : Verdict Pair) (x : Refusal) → replyOf size v ≡ reply.Refused x → ⊥
-  reply-given size convertible x q = clash (cc q)
-  reply-given size (noWord p) x q = clash (cc q)
-  reply-given size (rivalled p r) x q = clash (cc q)
-
   pub verdict-given : (x : Refusal) → verdictCall f ≡ reply.Refused x → ⊥
-  verdict-given x q = reply-given (length (bytesOf (matterOf f))) (verdictOf (matterOf f)) x (sym call-in ∙ q)
+  verdict-given x q = reply-refused (length (bytesOf (matterOf f))) x (verdictOf (matterOf f)) (sym call-in ∙ q)
 
   -- convertible exactly where a rule list exists
   pub verdict-exact : ((k : ℕ) × (verdictCall f ≡ reply.Convertible k)) ↔ ((r : List (List Word)) × Converts (matterOf f) r)
@@ -250,7 +222,7 @@ module _ (f : List ℕ) (e : checkOf f ≡ Accepted) where
   path-call : (p : Pair) → IsPair (matterOf f .parties) p → (v : Word) → MatterWord (matterOf f) v → (w : WordValue) → Carries w v → (size : ℕ) → w .len + 1 ≤ size → pathCall f (p .first) (p .second) w size ≡ found (leastPath (enlarged (matterOf f)) p v)
   unfolding pathCall
   path-call p h v m w c size k =
-      rw e (path-answer (matterOf f) (p .first) (p .second) w size (pair-test (matterOf f .parties) p h) (value-legal (matterOf f) v m w c) (λ z. absurd (omega (arith, c .len, m .some))) k ∙ rw (c .symbols))
+      rw e (path-answer (matterOf f) (p .first) (p .second) w size (pair-is (matterOf f .parties) (p .first) (p .second) h) (value-legal (matterOf f) v m w c) (λ z. absurd (omega (arith, c .len, m .some))) k ∙ rw (c .symbols))
 
   path-shown : (p : Pair) → IsPair (matterOf f .parties) p → (v : Word) → HasWord (matterOf f) p v → (w : WordValue) → Carries w v → (output : List ℕ) → w .len + 1 ≤ length output → ShowsPath f p w output
   path-shown p h v m w c output k =

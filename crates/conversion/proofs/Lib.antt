@@ -1,4 +1,5 @@
 pub mod TableLaws
+pub mod SizeLaws
 pub mod PassLaws
 pub mod WriteLaws
 pub mod JudgeLaws

@@ -1,13 +1,12 @@
 -- Going through the pairs by number: the list so far and the pairs left give the definition's list and verdict.
 use mathlib.Core.Path.{_≡_, refl, sym, ap, _∙_}
 use mathlib.Core.Bool.{true, false, not, _&&_}
-use mathlib.Core.List.{List, [], _∷_, _++_, List·Memᴰ, List·Memᴰ·head, List·Memᴰ·tail}
+use mathlib.Core.List.{List, [], _∷_, _++_}
 use mathlib.Core.Option.{Option, none, some}
 use Prim.Native.Nat.{ℕ, _+_, _*_, _/_, _%_, _≤_, _<_}
 use native.Mathlib.Omega.{arith}
 use lib.ListN.{length, length-append}
 use Rattle.lists.specs.Lists.{anyOf, firstBy, flatMap}
-use Rattle.lists.specs.Order.{sumOf}
 use Rattle.lists.proofs.Cases.{by-test, clash, and-left, and-right, and-false}
 use Rattle.lists.proofs.OrderLaws.{length-map}
 use Rattle.lists.proofs.Pointwise.{map-append}
@@ -29,17 +28,17 @@ use Rattle.graph.specs.declared.Archive.{Archive}
 use Rattle.graph.specs.Archive.{Shows}
 use Rattle.graph.specs.Legal.{isPair}
 use Rattle.paths.proofs.CallLaws.{pair-of}
-use Rattle.rules.specs.ListBytes.{encodeCount, encodeWord, encodeTerm, encodeList}
-use Rattle.rules.specs.Reading.{FitWord}
-use Rattle.rules.proofs.RoundTrip.{count-size, term-size, word-size, terms-more}
+use Rattle.rules.specs.ListBytes.{encodeCount, encodeTerm, encodeList}
+use Rattle.rules.proofs.RoundTrip.{count-size, terms-more}
 use Rattle.mining.specs.Pairs.{pairAt, isPairAt, pairsFrom}
-use Rattle.mining.specs.Building.{problemIn, named, bytesOf, termBytes}
+use Rattle.mining.specs.Building.{problemIn, named, encodedTerm, termBytes}
 use Rattle.mining.specs.Taking.{Marks, due, JudgedAs}
 use Rattle.mining.specs.declared.take.Taken.{Taken}
 use Rattle.mining.specs.declared.take.Judgment.the-variants.{Fit, Wordless, Rivalled}
 use Rattle.mining.specs.declared.build.Pair.{Pair as PairValue}
 use Rattle.mining.proofs.GridLaws.{pairs-numbered, pairs-skip, pairs-take, pairs-end}
 use Rattle.mining.proofs.ArchiveLaws.{problem-pairs, few-words, owned-fits}
+use Rattle.conversion.proofs.SizeLaws.{term-bound}
 use Rattle.conversion.specs.Passes.{archiveBytes}
 
 -- one pair of the definitions' lists
@@ -88,11 +87,11 @@ plain-more r t = map-append plainTerm r (t ∷ [])
 abbrev pub termsOf : RuleList Word → List ℕ
 termsOf r = flatMap encodeTerm (plainList r)
 
-pub terms-add : (r : RuleList Word) (t : Term Word) → termsOf (r ++ (t ∷ [])) ≡ termsOf r ++ bytesOf t
+pub terms-add : (r : RuleList Word) (t : Term Word) → termsOf (r ++ (t ∷ [])) ≡ termsOf r ++ encodedTerm t
 terms-add r t = rw (plain-more r t) (terms-more (plainList r) (plainTerm t))
 
-terms-add-size : (r : RuleList Word) (t : Term Word) → length (termsOf (r ++ (t ∷ []))) ≡ length (termsOf r) + length (bytesOf t)
-terms-add-size r t = ap length (terms-add r t) ∙ length-append (termsOf r) (bytesOf t)
+terms-add-size : (r : RuleList Word) (t : Term Word) → length (termsOf (r ++ (t ∷ []))) ≡ length (termsOf r) + length (encodedTerm t)
+terms-add-size r t = ap length (terms-add r t) ∙ length-append (termsOf r) (encodedTerm t)
 
 pub list-bytes : (r : RuleList Word) → encodeList (plainList r) ≡ encodeCount (length r) ++ termsOf r
 unfolding encodeList
@@ -109,17 +108,11 @@ terms-grow S r (p ∷ ps) =
     (λ e. rw (e, mineFrom) (omega (arith, terms-grow S (r ++ (termOf S p ∷ [])) ps, terms-add-size r (termOf S p))))
     (λ e. rw (e, mineFrom) (terms-grow S r ps))
 
-words-size : (t : List (List ℕ)) → ((w : List ℕ) → List·Memᴰ w t → FitWord w) → sumOf (λ w. length (encodeWord w)) t ≤ 32 * length t
-unfolding sumOf
-words-size [] f = omega arith
-words-size (w ∷ t) f = omega (arith, word-size w, f w (List·Memᴰ·head refl) .len, words-size t (λ v m. f v (List·Memᴰ·tail m)))
-
 pub term-fits : (M : Matter) (a : Archive) → Shows M a → (p : Pair) → length (termBytes a p) ≤ 31778
 unfolding termBytes
 term-fits M a s p =
-    let t = plainTerm (termOf (problemIn a) p) in
     let f = owned-fits M a s p (termOf (problemIn a) p) (term-owned (problemIn a) p) (few-words M a s p) in
-    omega (arith, term-size t, words-size t (f .words), length-map (λ i. i .word) (termOf (problemIn a) p), few-words M a s p)
+    term-bound (plainTerm (termOf (problemIn a) p)) (omega (arith, length-map (λ i. i .word) (termOf (problemIn a) p), few-words M a s p)) (λ w m. f .words w m .len)
 
 -- before the pair of number k: the list so far, its marks and its size
 pub record Passing (a : Archive) (list : RuleList Word) (row : Row) (size k : ℕ) : Type 0 where

@@ -35,7 +35,7 @@ use Rattle.rules.proofs.PutLaws.{put-length}
 use Rattle.rules.proofs.PlaceLaws.{term-ahead}
 use Rattle.house_file.specs.Layout.{u16At}
 use Rattle.mining.specs.Pairs.{pairAt, isPairAt, pairsFrom}
-use Rattle.mining.specs.Building.{problemIn, named, bytesOf, firstBytes, termBytes, BuiltAs}
+use Rattle.mining.specs.Building.{problemIn, named, encodedTerm, firstBytes, termBytes, BuiltAs}
 use Rattle.mining.specs.declared.build.Built.the-variants.{Rival, Term as TermTo}
 use Rattle.mining.proofs.GridLaws.{pairs-numbered, pairs-skip, pairs-take, pairs-end}
 use Rattle.mining.proofs.ArchiveLaws.{problem-pairs, problem-permitted, owned-met, few-words, owned-fits}
@@ -87,19 +87,19 @@ begin-length S p (w ∷ ws) h = refl
 plain-more : (t : Term Word) (i : Item Word) → plainTerm (t ++ (i ∷ [])) ≡ plainTerm t ++ (i .word ∷ [])
 plain-more t i = map-append (λ j. j .word) t (i ∷ [])
 
-pub size-more : (t : Term Word) (i : Item Word) → length (bytesOf (t ++ (i ∷ []))) ≡ length (bytesOf t) + 1 + length (i .word)
+pub size-more : (t : Term Word) (i : Item Word) → length (encodedTerm (t ++ (i ∷ []))) ≡ length (encodedTerm t) + 1 + length (i .word)
 unfolding encodeTerm
 size-more t i =
     rw (plain-more t i, words-more (plainTerm t) (i .word))
     (omega (arith, length-append (encodeCount (length (plainTerm t ++ (i .word ∷ [])))) (flatMap encodeWord (plainTerm t) ++ encodeWord (i .word)), length-append (flatMap encodeWord (plainTerm t)) (encodeWord (i .word)), length-append (encodeCount (length (plainTerm t))) (flatMap encodeWord (plainTerm t)), count-size (length (plainTerm t ++ (i .word ∷ []))), count-size (length (plainTerm t)), word-size (i .word)))
 
-pub size-least : (t : Term Word) → 2 ≤ length (bytesOf t)
+pub size-least : (t : Term Word) → 2 ≤ length (encodedTerm t)
 unfolding encodeTerm
 size-least t = omega (arith, length-append (encodeCount (length (plainTerm t))) (flatMap encodeWord (plainTerm t)), count-size (length (plainTerm t)))
 
 module _ (S : Problem Pair Word) (p : Pair) where
-  pub size-grows : (t : Term Word) (qs : List Pair) → length (bytesOf t) ≤ length (bytesOf (addAll S p t qs))
-  size-grows t qs = add-all S (λ u. length (bytesOf t) ≤ length (bytesOf u)) p (λ u w m h. omega (arith, size-more u (own S p w), h)) t qs (omega arith)
+  pub size-grows : (t : Term Word) (qs : List Pair) → length (encodedTerm t) ≤ length (encodedTerm (addAll S p t qs))
+  size-grows t qs = add-all S (λ u. length (encodedTerm t) ≤ length (encodedTerm u)) p (λ u w m h. omega (arith, size-more u (own S p w), h)) t qs (omega arith)
 
   number-grows : (t : Term Word) (qs : List Pair) → length t ≤ length (addAll S p t qs)
   number-grows t qs = add-all S (λ u. length t ≤ length u) p (λ u w m h. omega (arith, length-append u (own S p w ∷ []), h)) t qs (omega arith)
@@ -114,9 +114,9 @@ pub record Building (a : Archive) (p : Pair) (at : ℕ) (b : List ℕ) (k number
   pub owned : Owned (problemIn a) p term
   pub rest : addAll (problemIn a) p term (pairsFrom (a .parties) k) ≡ termOf (problemIn a) p
   pub rivals : rivalFrom (problemIn a) p term (pairsFrom (a .parties) k) ≡ rivalFrom (problemIn a) p (begin (problemIn a) p (wordsOf (problemIn a) p)) (problemIn a .pairs)
-  pub bytes : out ≡ put b at (bytesOf term)
+  pub bytes : out ≡ put b at (encodedTerm term)
   pub words : number ≡ length term
-  pub ends : end ≡ at + length (bytesOf term)
+  pub ends : end ≡ at + length (encodedTerm term)
 
 module _ (a : Archive) (p : Pair) (at : ℕ) (b : List ℕ) where
   pub build-start : a .parties ≤ 32 → (length (wordsOf (problemIn a) p) ≡ 0 → ⊥) → (from : ℕ) → from ≡ at + length (firstBytes a p) → put b at (firstBytes a p) ≡ b → Building a p at b 0 1 from b
@@ -193,7 +193,7 @@ module _ (a : Archive) (p : Pair) (at : ℕ) (b : List ℕ) where
           unfolding termBytes
           room-more =
               let s = size-grows (problemIn a) p (B .term ++ (own (problemIn a) p w ∷ [])) (pairsFrom (a .parties) (k + 1)) in
-              let e = ap (λ (t : Term Word). length (bytesOf t)) longer in
+              let e = ap (λ (t : Term Word). length (encodedTerm t)) longer in
               omega (arith, s, e, B .ends, size-more (B .term) (own (problemIn a) p w))
 
   module _ (k number end : ℕ) (out : List ℕ) (B : Building a p at b k number end out) where
@@ -202,20 +202,20 @@ module _ (a : Archive) (p : Pair) (at : ℕ) (b : List ℕ) where
     unfolding termBytes
     build-room =
         let s = size-grows (problemIn a) p (B .term) (pairsFrom (a .parties) k) in
-        let e = ap (λ (t : Term Word). length (bytesOf t)) (B .rest) in
+        let e = ap (λ (t : Term Word). length (encodedTerm t)) (B .rest) in
         (omega (arith, size-least (B .term), B .ends), omega (arith, s, e, B .ends))
 
     pub build-few : length (termOf (problemIn a) p) ≤ 993 → length (B .term) ≤ 993
     build-few h = omega (arith, number-grows (problemIn a) p (B .term) (pairsFrom (a .parties) k), ap length (B .rest), h)
 
-    pub build-term-at : (M : Matter) → Shows M a → at ≤ length b → TermAt out at (plainTerm (B .term)) (drop (at + length (bytesOf (B .term))) b)
+    pub build-term-at : (M : Matter) → Shows M a → at ≤ length b → TermAt out at (plainTerm (B .term)) (drop (at + length (encodedTerm (B .term))) b)
     build-term-at M s h = record {
-      bytes = ap (drop at) (B .bytes) ∙ put-drop b at (bytesOf (B .term)) h;
+      bytes = ap (drop at) (B .bytes) ∙ put-drop b at (encodedTerm (B .term)) h;
       fits = owned-fits M a s p (B .term) (B .owned) (build-few (few-words M a s p));
     }
 
     pub build-same : at + length (termBytes a p) ≤ length b → length out ≡ length b
-    build-same r = ap length (B .bytes) ∙ put-length b at (bytesOf (B .term)) (omega (arith, build-room .1, B .ends, r))
+    build-same r = ap length (B .bytes) ∙ put-length b at (encodedTerm (B .term)) (omega (arith, build-room .1, B .ends, r))
 
     pub build-count : (M : Matter) → Shows M a → at ≤ length b → number ≡ u16At out at
     build-count M s h = B .words ∙ sym (length-map (λ i. i .word) (B .term)) ∙ term-ahead out at (plainTerm (B .term)) _ (build-term-at M s h) .number
@@ -255,4 +255,4 @@ module _ (a : Archive) (p : Pair) (at : ℕ) (b : List ℕ) where
       let r : rivalFrom (problemIn a) p (B .term) [] ≡ rivalFrom (problemIn a) p (begin (problemIn a) p (wordsOf (problemIn a) p)) (problemIn a .pairs) = rw (pairs-end (a .parties) k past) at (B .rivals) in
       let t : B .term ≡ termOf (problemIn a) p = sym (add-end (problemIn a) p (B .term)) ∙ (rw (pairs-end (a .parties) k past) at (B .rest)) in
       let j : judge (problemIn a) p ≡ convertible = sym (judge-from (problemIn a) p) ∙ ap (ruling (problemIn a) p (wordsOf (problemIn a) p)) (sym r ∙ rival-end (problemIn a) p (B .term)) ∙ ruled-fit (problemIn a) p (wordsOf (problemIn a) p) full in
-      rw j (ap TermTo (B .ends ∙ ap (λ (x : Term Word). at + length (bytesOf x)) t), B .bytes ∙ ap (λ (x : Term Word). put b at (bytesOf x)) t)
+      rw j (ap TermTo (B .ends ∙ ap (λ (x : Term Word). at + length (encodedTerm x)) t), B .bytes ∙ ap (λ (x : Term Word). put b at (encodedTerm x)) t)

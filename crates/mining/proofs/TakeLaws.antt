@@ -21,7 +21,7 @@ use Rattle.paths.proofs.CallLaws.{pair-of}
 use Rattle.rules.specs.Reading.{TermAt}
 use Rattle.rules.specs.Writing.{put}
 use Rattle.mining.specs.Pairs.{pairAt, isPairAt}
-use Rattle.mining.specs.Building.{problemIn, named, bytesOf, termBytes, BuiltAs}
+use Rattle.mining.specs.Building.{problemIn, named, encodedTerm, termBytes, BuiltAs}
 use Rattle.mining.specs.Taking.{Marks, due, dueBy, JudgedAs}
 use Rattle.mining.specs.declared.build.Built.the-variants.{NoWord, Rival, Term as TermTo}
 use Rattle.mining.specs.declared.build.Pair.{Pair as PairValue}
@@ -68,7 +68,7 @@ module _ (a : Archive) (p : Pair) (at : ℕ) (old new : List ℕ) where
   pub term-stands : (M : Matter) → Shows M a → at ≤ length old → new ≡ put old at (termBytes a p) → TermAt new at (plainTerm (termOf (problemIn a) p)) (drop (at + length (termBytes a p)) old)
   unfolding termBytes
   term-stands M s h e = record {
-    bytes = ap (drop at) e ∙ put-drop old at (bytesOf (termOf (problemIn a) p)) h;
+    bytes = ap (drop at) e ∙ put-drop old at (encodedTerm (termOf (problemIn a) p)) h;
     fits = owned-fits M a s p (termOf (problemIn a) p) (term-owned (problemIn a) p) (few-words M a s p);
   }
 

@@ -29,15 +29,15 @@ abbrev pub named : Pair → PairValue
 named p = record { first = p .first; second = p .second }
 
 -- the bytes of a term
-abbrev pub bytesOf : Term Word → List ℕ
-bytesOf t = encodeTerm (plainTerm t)
+abbrev pub encodedTerm : Term Word → List ℕ
+encodedTerm t = encodeTerm (plainTerm t)
 
 -- the bytes of a pair's first word alone, and of its whole term
 unfoldable pub firstBytes : Archive → Pair → List ℕ
-firstBytes a p = bytesOf (begin (problemIn a) p (wordsOf (problemIn a) p))
+firstBytes a p = encodedTerm (begin (problemIn a) p (wordsOf (problemIn a) p))
 
 unfoldable pub termBytes : Archive → Pair → List ℕ
-termBytes a p = bytesOf (termOf (problemIn a) p)
+termBytes a p = encodedTerm (termOf (problemIn a) p)
 
 -- what building gives, by the pair's judgment: the term from place `at` on, and where it ends; or what is in the way
 abbrev pub BuiltAs : Archive → Pair → ℕ → List ℕ → List ℕ → Verdict Pair → Built → Type 0

@@ -28,7 +28,7 @@ use Rattle.rules.specs.declared.read.WordRead.{WordRead}
 use Rattle.rules.proofs.PlaceLaws.{word-fits, word-value, word-short, word-symbols}
 use Rattle.rules.proofs.MeetLaws.{TermSoFar, meet-start, meet-entry, meet-next, meet-end}
 use Rattle.lists.proofs.Cases.{and-left}
-use Rattle.mining.specs.Building.{problemIn, bytesOf, termBytes}
+use Rattle.mining.specs.Building.{problemIn, encodedTerm, termBytes}
 use Rattle.mining.proofs.ArchiveLaws.{few-parties, few-words, lacked-shown}
 use Rattle.mining.proofs.BuildLaws.{Building, build-start, extend-skip, extend-unmet, extend-rival, extend-more, extend-room, build-room, build-few, build-same, build-count, build-term-at, build-end}
 use Rattle.mining.proofs.build.extend_term.Statement.{statement}
@@ -100,7 +100,7 @@ loop-holds c =
     (refl, λ t s h. meet-start _ _ t s _ _ h (build-count (x .args .a) p (x .args .at) (x .args .out .now) (o .k) (o .number) (o .end) (o .out) (o .inv .1) M S (omega (arith, r))))
 
 -- the term that stands at its place
-stands : (c : tie.In-pairs Inv-loop μ-loop Inv-pairs μ-pairs) → TermAt (c .before .pairs .out) (c .before .before .before .before .args .at) (plainTerm (c .before .pairs .inv .1 .term)) (drop (c .before .before .before .before .args .at + length (bytesOf (c .before .pairs .inv .1 .term))) (c .before .before .before .before .args .out .now))
+stands : (c : tie.In-pairs Inv-loop μ-loop Inv-pairs μ-pairs) → TermAt (c .before .pairs .out) (c .before .before .before .before .args .at) (plainTerm (c .before .pairs .inv .1 .term)) (drop (c .before .before .before .before .args .at + length (encodedTerm (c .before .pairs .inv .1 .term))) (c .before .before .before .before .args .out .now))
 stands c =
     let x = c .before .before .before .before in
     let o = c .before .pairs in
