@@ -159,3 +159,10 @@ range-in n x h = up-in 0 n x (omega arith) (omega arith)
 pub range-out : (n : ℕ) {x : ℕ} → List·Memᴰ x (range n) → x < n
 unfolding range
 range-out n {x} m = let r : x < 0 + n = up-out 0 n m .1 in omega arith
+
+-- some element passes p exactly where one of those that pass q does, if p asks for q
+pub any-filter : {A : Type 0} (p q : A → Bool) (l : List A) → ((x : A) → p x ≡ true → q x ≡ true) → anyOf p (filterBy q l) ≡ anyOf p l
+any-filter p q l f =
+    by-test (anyOf p l)
+    (λ e. let r = any-out p l e in any-in p (filterBy q l) (filter-in q l (r .1) (f (r .0) (r .2))) (r .2) ∙ sym e)
+    (λ e. any-none p (filterBy q l) (λ x m h. both (any-in p l (filter-out q l m .0) h) e) ∙ sym e)

@@ -10,6 +10,7 @@ pub mod WordsLaws
 pub mod SymbolsLaws
 pub mod PairsLaws
 pub mod Conversion
+pub mod AnyList
 pub mod NextWordLaws
 pub mod FormLaws
 pub mod SearchLaws

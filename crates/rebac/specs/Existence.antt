@@ -56,7 +56,14 @@ hasAll M p t = allOf (has (enlarged M) p) t
 unfoldable pub permitsPair : Matter → List (List Word) → Pair → Bool
 permitsPair M r p = anyOf (hasAll M p) r
 
--- 01, demand 3: "every such list with words of at most D symbols, whatever its numbers of terms and words"
+-- 01: "Demand 3 is about every such list with words of at most D symbols, whatever its numbers of terms and words, even where no list bytes could hold it."
+-- The symbols of a word may be any numbers, and a word may be empty: no pair has such a word.
+pub record ConvertsAny (M : Matter) (r : List (List Word)) : Type 0 where
+  pub some : (t : List Word) → List·Memᴰ t r → 1 ≤ length t
+  pub short : (t : List Word) → List·Memᴰ t r → (w : Word) → List·Memᴰ w t → length w ≤ M .longest
+  pub exact : (p : Pair) → List·Memᴰ p (pairsOf (M .parties)) → permitsPair M r p ≡ permitted M p
+
+-- the same for a list of words of the matter
 pub record Converts (M : Matter) (r : List (List Word)) : Type 0 where
   pub full : (t : List Word) → List·Memᴰ t r → 1 ≤ length t
   pub fits : (t : List Word) → List·Memᴰ t r → (w : Word) → List·Memᴰ w t → MatterWord M w
