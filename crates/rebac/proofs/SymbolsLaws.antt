@@ -1,18 +1,19 @@
--- The symbols that hold: between two different parties of the matter, of its language, and then by Table 1; the alphabet lists the language.
-use mathlib.Core.Path.{_≡_, refl}
+-- The symbols that hold are those in a row of Table 1, by cases on kind and language; the alphabet lists the language.
+use mathlib.Core.Path.{_≡_, refl, sym, _∙_}
+use mathlib.Core.Logic.{_⊎_, inl, inr, ⊎-elim}
 use mathlib.Core.Bool.{true, false, _&&_}
-use mathlib.Core.List.{List, [], _∷_, map, List·Memᴰ, List·Memᴰ·not-nil}
+use mathlib.Core.List.{List, [], _∷_, map, List·Memᴰ, List·Memᴰ·head, List·Memᴰ·not-nil}
 use Prim.Native.Nat.{ℕ, zero, suc, _+_, _*_, _/_, _%_, _≤_, _<_}
 use native.Mathlib.Omega.{arith}
 use lib.Dec.{eqb, ltb}
 use borrow.Author.Tests.{ltb-true, lt-ltb, eqb-false, ne-eqb, not-true}
-use Rattle.lists.specs.Lists.{allOf, flatMap, upFrom, range}
+use Rattle.lists.specs.Lists.{allOf, anyOf, flatMap, member, upFrom, range}
 use Rattle.lists.specs.Order.{Ascending}
-use Rattle.lists.proofs.Cases.{by-test, by-mem, and-left, and-right}
+use Rattle.lists.proofs.Cases.{by-test, by-mem, clash, and-left, and-right}
 use Rattle.lists.proofs.ListLaws.{all-in, flat-in, flat-out, map-in, map-out, member-in, member-out, range-in, range-out}
 use Rattle.lists.proofs.OrderLaws.{ascending-append, range-ascending}
 use Rattle.rebac.specs.Matter.{Matter}
-use Rattle.rebac.specs.Symbols.{Held, kinds, kindHolds, apart, inLanguage, holds, alphabet, capOf}
+use Rattle.rebac.specs.Symbols.{TableRow, plain, absent, inverse, absentInverse, Held, kinds, kindHolds, apart, inLanguage, holds, alphabet, capOf}
 
 split-label : (l k : ℕ) → k < 4 → (4 * l + k) / 4 ≡ l
 split-label l k h = omega arith
@@ -52,27 +53,100 @@ apart-out M u v e =
       eqb-false u v (not-true (eqb u v) (and-right (ltb u (M .parties) && ltb v (M .parties)) _ e)),
     )
 
-pub holds-out : (M : Matter) (u v s : ℕ) → holds M u v s ≡ true → Held M u v s
-unfolding holds
-holds-out M u v s e =
-    let a = apart-out M u v (and-left (apart M u v) _ e) in
-    let b : (inLanguage M s && kindHolds M u v (s / 4) (s % 4)) ≡ true = and-right (apart M u v) _ e in
-    record { first = a .0; second = a .1; different = a .2; language = and-left (inLanguage M s) _ b; kind = and-right (inLanguage M s) _ b }
-
-pub holds-in : (M : Matter) (u v s : ℕ) → Held M u v s → holds M u v s ≡ true
-unfolding holds apart
-holds-in M u v s r = rw (lt-ltb u (M .parties) (r .first), lt-ltb v (M .parties) (r .second), ne-eqb u v (r .different), r .language, r .kind)
-
--- no symbol holds between a party and itself
-pub holds-loop : (M : Matter) (u s : ℕ) → holds M u u s ≡ false
-holds-loop M u s = by-test (holds M u u s) (λ e. absurd (holds-out M u u s e .different refl)) (λ e. e)
-
--- Table 1 and Definition 4.3: between two different parties a symbol of the language holds as its kind says (Lemma 4.4's content)
+-- Definition 4.3: between two different parties a symbol of the language holds as its kind says
 pub holds-table : (M : Matter) (u v label kind : ℕ) → u < M .parties → v < M .parties → (u ≡ v → ⊥) → label < M .labels → List·Memᴰ kind (kinds (M .language)) → holds M u v (4 * label + kind) ≡ kindHolds M u v label kind
 unfolding holds apart inLanguage
 holds-table M u v label kind a b c d m =
     let k : kind < 4 = kinds-below (M .language) m in
     rw (split-label label kind k, split-kind label kind k, lt-ltb u (M .parties) a, lt-ltb v (M .parties) b, ne-eqb u v c, lt-ltb label (M .labels) d, member-in kind (kinds (M .language)) m)
+
+-- Tables 1 and 2 agree: a language uses the kinds whose rows are ticked for it
+plain-used : (g : ℕ) → List·Memᴰ 0 (kinds g)
+unfolding kinds
+plain-used zero = List·Memᴰ·head refl
+plain-used (suc zero) = List·Memᴰ·head refl
+plain-used (suc (suc zero)) = List·Memᴰ·head refl
+plain-used (suc (suc (suc g))) = List·Memᴰ·head refl
+
+all-used : (g : ℕ) → 3 ≤ g → kinds g ≡ 0 ∷ 1 ∷ 2 ∷ 3 ∷ []
+unfolding kinds
+all-used zero h = absurd (omega arith)
+all-used (suc zero) h = absurd (omega arith)
+all-used (suc (suc zero)) h = absurd (omega arith)
+all-used (suc (suc (suc g))) h = refl
+
+absent-used : (g : ℕ) → (g ≡ 1) ⊎ (3 ≤ g) → List·Memᴰ 1 (kinds g)
+unfolding kinds anyOf
+absent-used g t = member-out 1 (kinds g) (⊎-elim (λ (q : g ≡ 1). rw q) (λ (q : 3 ≤ g). rw (all-used g q)) t)
+
+inverse-used : (g : ℕ) → (g ≡ 2) ⊎ (3 ≤ g) → List·Memᴰ 2 (kinds g)
+unfolding kinds anyOf
+inverse-used g t = member-out 2 (kinds g) (⊎-elim (λ (q : g ≡ 2). rw q) (λ (q : 3 ≤ g). rw (all-used g q)) t)
+
+absent-inverse-used : (g : ℕ) → 3 ≤ g → List·Memᴰ 3 (kinds g)
+unfolding anyOf
+absent-inverse-used g h = member-out 3 (kinds g) (rw (all-used g h))
+
+absent-ticked : (g : ℕ) → member 1 (kinds g) ≡ true → (g ≡ 1) ⊎ (3 ≤ g)
+unfolding kinds anyOf
+absent-ticked zero e = clash (sym e)
+absent-ticked (suc zero) e = inl refl
+absent-ticked (suc (suc zero)) e = clash (sym e)
+absent-ticked (suc (suc (suc g))) e = inr (omega arith)
+
+inverse-ticked : (g : ℕ) → member 2 (kinds g) ≡ true → (g ≡ 2) ⊎ (3 ≤ g)
+unfolding kinds anyOf
+inverse-ticked zero e = clash (sym e)
+inverse-ticked (suc zero) e = clash (sym e)
+inverse-ticked (suc (suc zero)) e = inl refl
+inverse-ticked (suc (suc (suc g))) e = inr (omega arith)
+
+absent-inverse-ticked : (g : ℕ) → member 3 (kinds g) ≡ true → 3 ≤ g
+unfolding kinds anyOf
+absent-inverse-ticked zero e = clash (sym e)
+absent-inverse-ticked (suc zero) e = clash (sym e)
+absent-inverse-ticked (suc (suc zero)) e = clash (sym e)
+absent-inverse-ticked (suc (suc (suc g))) e = omega arith
+
+-- a symbol that holds is in the row of its kind
+row-of : (M : Matter) (u v s label kind : ℕ) → label < M .labels → s ≡ 4 * label + kind → kind < 4 → member kind (kinds (M .language)) ≡ true → kindHolds M u v label kind ≡ true → TableRow M u v s
+unfolding kindHolds
+row-of M u v s label zero l q k m e = plain label l q e
+row-of M u v s label (suc zero) l q k m e = absent label l q (not-true (M .edge u v label) e) (absent-ticked (M .language) m)
+row-of M u v s label (suc (suc zero)) l q k m e = inverse label l q e (inverse-ticked (M .language) m)
+row-of M u v s label (suc (suc (suc zero))) l q k m e = absentInverse label l q (not-true (M .edge v u label) e) (absent-inverse-ticked (M .language) m)
+row-of M u v s label (suc (suc (suc (suc kind)))) l q k m e = absurd (omega arith)
+
+pub holds-out : (M : Matter) (u v s : ℕ) → holds M u v s ≡ true → Held M u v s
+unfolding holds inLanguage
+holds-out M u v s e =
+    let a = apart-out M u v (and-left (apart M u v) _ e) in
+    let b = and-right (apart M u v) _ e in
+    let l : inLanguage M s ≡ true = and-left (inLanguage M s) _ b in
+    record {
+      first = a .0;
+      second = a .1;
+      different = a .2;
+      row = row-of M u v s (s / 4) (s % 4) (ltb-true (s / 4) (M .labels) (and-left (ltb (s / 4) (M .labels)) _ l)) (join-symbol s) (omega arith) (and-right (ltb (s / 4) (M .labels)) _ l) (and-right (inLanguage M s) _ b);
+    }
+
+-- and a symbol in a row holds
+pub holds-in : (M : Matter) (u v s : ℕ) → Held M u v s → holds M u v s ≡ true
+unfolding kindHolds
+holds-in M u v s r = go (r .row)
+  where
+    kept : (label kind : ℕ) → label < M .labels → s ≡ 4 * label + kind → List·Memᴰ kind (kinds (M .language)) → kindHolds M u v label kind ≡ true → holds M u v s ≡ true
+    kept label kind l q m e = rw q (holds-table M u v label kind (r .first) (r .second) (r .different) l m ∙ e)
+
+    go : TableRow M u v s → holds M u v s ≡ true
+    go (plain label l q e) = kept label 0 l q (plain-used (M .language)) e
+    go (absent label l q e t) = kept label 1 l q (absent-used (M .language) t) (rw e)
+    go (inverse label l q e t) = kept label 2 l q (inverse-used (M .language) t) e
+    go (absentInverse label l q e t) = kept label 3 l q (absent-inverse-used (M .language) t) (rw e)
+
+-- no symbol holds between a party and itself
+pub holds-loop : (M : Matter) (u s : ℕ) → holds M u u s ≡ false
+holds-loop M u s = by-test (holds M u u s) (λ e. absurd (holds-out M u u s e .different refl)) (λ e. e)
 
 -- the alphabet lists the language's symbols
 pub language-listed : (M : Matter) (s : ℕ) → inLanguage M s ≡ true → List·Memᴰ s (alphabet (M .language) (M .labels))
@@ -109,7 +183,8 @@ alphabet-below language labels m = let r = alphabet-out language labels m in ome
 
 -- a symbol that holds is of the alphabet
 pub holds-listed : (M : Matter) (u v s : ℕ) → holds M u v s ≡ true → List·Memᴰ s (alphabet (M .language) (M .labels))
-holds-listed M u v s e = language-listed M s (holds-out M u v s e .language)
+unfolding holds
+holds-listed M u v s e = language-listed M s (and-left (inLanguage M s) _ (and-right (apart M u v) _ e))
 
 map-ascending : (f : ℕ → ℕ) → ((a b : ℕ) → a < b → f a < f b) → (l : List ℕ) → Ascending ltb l → Ascending ltb (map f l)
 map-ascending f h [] a = tt

@@ -1,12 +1,38 @@
 -- The symbols that hold from one party to another: the enlarged graph (000: enhanced RG).
 use mathlib.Core.Path.{_≡_}
-use mathlib.Core.Bool.{Bool, true, not, _&&_}
+use mathlib.Core.Logic.{_⊎_}
+use mathlib.Core.Bool.{Bool, true, false, not, _&&_}
 use mathlib.Core.List.{List, [], _∷_, map, List·Memᴰ}
-use Prim.Native.Nat.{ℕ, zero, suc, _+_, _*_, _/_, _%_, _<_}
+use Prim.Native.Nat.{ℕ, zero, suc, _+_, _*_, _/_, _%_, _≤_, _<_}
 use lib.Dec.{eqb, ltb}
 use Rattle.lists.specs.Lists.{flatMap, member, range}
 use Rattle.rebac.specs.Matter.{Matter, Pair}
 use Rattle.rebac.specs.Paths.{Graph, Triple, Linked, NoReturn}
+
+-- Definition 4.1, Table 1: its four rows for a triple (u, v, s) of a label below L; 01: "A symbol is 4 × label + kind."
+-- The languages 0, 1, 2 and 3 or more have the simple path, SCP, SPP and SCPP.
+pub data TableRow (M : Matter) (u v s : ℕ) : Type 0 where
+  -- an edge, in all of them
+  plain : (label : ℕ) → label < M .labels → s ≡ 4 * label + 0 → M .edge u v label ≡ true → TableRow M u v s
+  -- no edge: SCP and SCPP
+  absent : (label : ℕ) → label < M .labels → s ≡ 4 * label + 1 → M .edge u v label ≡ false → (M .language ≡ 1) ⊎ (3 ≤ M .language) → TableRow M u v s
+  -- the inverse of an edge: SPP and SCPP
+  inverse : (label : ℕ) → label < M .labels → s ≡ 4 * label + 2 → M .edge v u label ≡ true → (M .language ≡ 2) ⊎ (3 ≤ M .language) → TableRow M u v s
+  -- the inverse of no edge: SCPP
+  absentInverse : (label : ℕ) → label < M .labels → s ≡ 4 * label + 3 → M .edge v u label ≡ false → 3 ≤ M .language → TableRow M u v s
+
+-- the triple is between two different parties and in a row of the table
+pub record Held (M : Matter) (u v s : ℕ) : Type 0 where
+  pub first : u < M .parties
+  pub second : v < M .parties
+  pub different : u ≡ v → ⊥
+  pub row : TableRow M u v s
+
+-- Definition 4.1: in languages 0 to 3 the simple path, SCP, SPP and SCPP of the relationship graph
+pub record VariationPath (M : Matter) (p : Pair) (ts : List (Triple ℕ)) : Type 0 where
+  pub linked : Linked (p .first) ts (p .second)
+  pub simple : NoReturn ts
+  pub admitted : (t : Triple ℕ) → List·Memᴰ t ts → Held M (t .start) (t .finish) (t .symbol)
 
 -- Definition 4.2, Table 2: language 0 uses kind 0; 1 kinds 0 and 1; 2 kinds 0 and 2; 3 all four
 unfoldable pub kinds : ℕ → List ℕ
@@ -30,23 +56,9 @@ apart M u v = (ltb u (M .parties) && ltb v (M .parties)) && not (eqb u v)
 unfoldable pub inLanguage : Matter → ℕ → Bool
 inLanguage M s = ltb (s / 4) (M .labels) && member (s % 4) (kinds (M .language))
 
--- Definition 4.1, Table 1, and Definition 4.3: the symbol holds from u to v
+-- Definition 4.3: (u, v, s) is an edge of the enlarged graph; 01: the symbol holds
 unfoldable pub holds : Matter → ℕ → ℕ → ℕ → Bool
 holds M u v s = apart M u v && (inLanguage M s && kindHolds M u v (s / 4) (s % 4))
-
--- the same as a statement: a row of Table 1, between two different parties, for a symbol of the language
-pub record Held (M : Matter) (u v s : ℕ) : Type 0 where
-  pub first : u < M .parties
-  pub second : v < M .parties
-  pub different : u ≡ v → ⊥
-  pub language : inLanguage M s ≡ true
-  pub kind : kindHolds M u v (s / 4) (s % 4) ≡ true
-
--- Definition 4.1: in languages 0 to 3 the simple path, SCP, SPP and SCPP of the relationship graph
-pub record VariationPath (M : Matter) (p : Pair) (ts : List (Triple ℕ)) : Type 0 where
-  pub linked : Linked (p .first) ts (p .second)
-  pub simple : NoReturn ts
-  pub admitted : (t : Triple ℕ) → List·Memᴰ t ts → Held M (t .start) (t .finish) (t .symbol)
 
 -- the language's symbols, ascending
 unfoldable pub alphabet : ℕ → ℕ → List ℕ
