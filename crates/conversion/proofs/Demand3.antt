@@ -77,7 +77,7 @@ module _ (M : Matter) where
   word-in p w h = pair-words-in M p w (h .0) (has-in (enlarged M) p w (h .1 .0) (h .1 .1))
 
   word-out : (p : Pair) (w : Word) → List·Memᴰ w (pairWords M p) → HasWord M p w
-  word-out p w m = let r = pair-words-out M p w m in (r .0, has-out (enlarged M) p w (r .1))
+  word-out p w m = let r = pair-words-out M p w m in (r .0, has-out (enlarged M) p w (r .0 .some) (r .1))
 
   listed : (p : Pair) → IsPair (M .parties) p → List·Memᴰ p (pairsOf (M .parties))
   listed p h = pairs-in (M .parties) (p .first) (p .second) (h .first) (h .second) (h .different)
@@ -105,7 +105,7 @@ module _ (M : Matter) where
             let a : has (enlarged M) p v ≡ true = has-in (enlarged M) p v (h .1 .0) (h .1 .1) in
             let b : 1 ≤ score M p v = leb-true 1 (score M p v) (score-has M p v ∙ a) in
             let c : score M p v ≤ score M q v = leb-true _ _ (all-in _ (pairWords M p) (and-right (not (permitted M q)) _ e) (word-in p v h)) in
-            (h .0, has-out (enlarged M) q v (sym (score-has M q v) ∙ le-leb 1 (score M q v) (omega arith)));
+            (h .0, has-out (enlarged M) q v (h .0 .some) (sym (score-has M q v) ∙ le-leb 1 (score M q v) (omega arith)));
       }
 
   hinders-in : (p : Pair) → Hinders M p → spoils (problemOf M) p ≡ true
@@ -229,7 +229,7 @@ module _ (f : List ℕ) (e : checkOf f ≡ Accepted) where
       by-found (leastPath (enlarged (matterOf f)) p v)
       (λ n. both (has-in (enlarged (matterOf f)) p v (m .1 .0) (m .1 .1)) (least-none (enlarged (matterOf f)) p v .0 n))
       (λ l n.
-      let r = least-is-path (enlarged (matterOf f)) p v n in
+      let r = least-is-path (enlarged (matterOf f)) p v (m .0 .some) n in
       let z : l ≡ p .first ∷ r .0 = r .1 in
       let a : pathCall f (p .first) (p .second) w (length output) ≡ writes (p .first ∷ r .0) = path-call p h v (m .0) w c (length output) k ∙ ap found n ∙ ap writes z in
       let s : length (p .first ∷ r .0) ≡ w .len + 1 = ap length (sym z) ∙ least-size (enlarged (matterOf f)) p v n ∙ omega (arith, c .len) in
@@ -249,7 +249,7 @@ module _ (f : List ℕ) (e : checkOf f ≡ Accepted) where
   pub no-word-nothing : (x : PairValue) → verdictCall f ≡ reply.NoWord x → (v : Word) → MatterWord (matterOf f) v → (w : WordValue) → Carries w v → (size : ℕ) → w .len + 1 ≤ size → pathCall f (x .first) (x .second) w size ≡ nothing
   no-word-nothing x t v m w c size k =
       let r = no-word-exact x t in
-      let n : has (enlarged (matterOf f)) (pairIn x) v ≡ false = by-test (has (enlarged (matterOf f)) (pairIn x) v) (λ h. absurd (r .1 v (m, has-out (enlarged (matterOf f)) (pairIn x) v h))) (λ h. h) in
+      let n : has (enlarged (matterOf f)) (pairIn x) v ≡ false = by-test (has (enlarged (matterOf f)) (pairIn x) v) (λ h. absurd (r .1 v (m, has-out (enlarged (matterOf f)) (pairIn x) v (m .some) h))) (λ h. h) in
       path-call (pairIn x) (r .0 .isPair) v m w c size k ∙ rw (least-none (enlarged (matterOf f)) (pairIn x) v .1 n)
 
   -- not convertible, a rival: the same pair, its first rival, and at every word of the pair the path call shows a path for both

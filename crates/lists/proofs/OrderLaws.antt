@@ -1,6 +1,6 @@
 -- Laws of lists in order, of lists without repetition and of sums, each by induction on the list. Assumes nothing.
 use mathlib.Core.Path.{_≡_, refl, sym, ap, _∙_}
-use mathlib.Core.Logic.{_⊎_, inl, inr, ⊎-elim}
+use mathlib.Core.Logic.{_⊎_, _↔_, inl, inr, ⊎-elim}
 use mathlib.Core.Bool.{Bool, true, false}
 use mathlib.Core.List.{List, [], _∷_, _++_, map, List·Memᴰ, List·Memᴰ·head, List·Memᴰ·tail, List·Memᴰ·not-nil, List·Memᴰ·append-cases}
 use mathlib.Core.Option.{none, some}
@@ -88,9 +88,9 @@ module _ {A : Type 0} where
   head-in [] e = clash (cc e)
   head-in (y ∷ ys) {x} e = let z : x ≡ y = cc in List·Memᴰ·head z
 
-  pub head-none : (l : List A) → headOf l ≡ none → {x : A} → List·Memᴰ x l → ⊥
-  head-none [] e m = List·Memᴰ·not-nil m
-  head-none (y ∷ ys) e m = clash (cc e)
+  pub head-none : (l : List A) → (headOf l ≡ none) ↔ (leb 1 (length l) ≡ false)
+  head-none [] = (λ e. refl, λ e. refl)
+  head-none (x ∷ l) = (λ e. clash (cc e), λ e. both (le-leb 1 (suc (length l)) (omega arith)) e)
 
   -- sums
   pub sum-mono : (f g : A → ℕ) (l : List A) → ((x : A) → List·Memᴰ x l → f x ≤ g x) → sumOf f l ≤ sumOf g l

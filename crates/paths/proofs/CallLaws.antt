@@ -24,7 +24,7 @@ use Rattle.rebac.specs.Marked.{onto}
 use Rattle.rebac.proofs.MatterLaws.{graph-equal, next-search-equal}
 use Rattle.rebac.specs.Forms.{searchNext}
 use Rattle.rebac.specs.NextWord.{nextWord}
-use Rattle.rebac.proofs.Reach.{least-is-path}
+use Rattle.rebac.proofs.Reach.{least-is-walk}
 use Rattle.rebac.proofs.SearchLaws.{least-size}
 use Rattle.rebac.proofs.SymbolsLaws.{holds-listed, alphabet-ascending, alphabet-below}
 use Rattle.house_file.specs.declared.reply.Refusal.the-variants.{PartyPair, GivenWord, Output}
@@ -201,7 +201,7 @@ module _ (M : Matter) (s : Archive) (h : Shows M s) (a b : ℕ) (w : Word) (shor
       let l = o .0 in
       let q : FoundAs 0 (withBit 0 a) (some l) f = rw (o .1) at r in
       let least : leastPath (enlarged M) (pair a b) (symbolsIn w) ≡ some (a ∷ l) = sym least-of ∙ ap (onto a) (o .1) in
-      let path = least-is-path (enlarged M) (pair a b) (symbolsIn w) least in
+      let path = least-is-walk (enlarged M) (pair a b) (symbolsIn w) least in
       let same : l ≡ path .0 = cc (path .1) in
       let d : Distinct (a ∷ l) = rw same (path .2 .simple) in
       let size : length (a ∷ l) ≡ w .len + 1 = least-size (enlarged M) (pair a b) (symbolsIn w) least ∙ omega (arith, words) in

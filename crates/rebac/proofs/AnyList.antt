@@ -2,14 +2,13 @@
 use mathlib.Core.Path.{_≡_, _∙_}
 use mathlib.Core.Logic.{_↔_}
 use mathlib.Core.Bool.{Bool, true, _&&_}
-use mathlib.Core.List.{List, [], _∷_, List·Memᴰ}
+use mathlib.Core.List.{List, List·Memᴰ}
 use Prim.Native.Nat.{_≤_}
-use native.Mathlib.Omega.{arith}
 use lib.Dec.{leb}
 use lib.ListN.{length}
 use borrow.Author.Tests.{le-leb, leb-true}
 use Rattle.lists.specs.Lists.{allOf, filterBy}
-use Rattle.lists.proofs.Cases.{both, and-left, and-right, and-both}
+use Rattle.lists.proofs.Cases.{and-left, and-right, and-both}
 use Rattle.lists.proofs.ListLaws.{all-in, all-of, filter-out, any-filter}
 use Rattle.rebac.specs.Matter.{Matter, Pair, pairsOf}
 use Rattle.rebac.specs.Words.{Word}
@@ -19,7 +18,7 @@ use Rattle.rebac.specs.Verdict.{convertible}
 use Rattle.rebac.specs.Existence.{verdictOf, minedList, MatterWord, hasAll, permitsPair, ConvertsAny, Converts, plainList}
 use Rattle.rebac.proofs.SymbolsLaws.{language-listed, listed-language}
 use Rattle.rebac.proofs.PairsLaws.{pairs-out}
-use Rattle.rebac.proofs.SearchLaws.{no-empty-word}
+use Rattle.rebac.proofs.Reach.{has-some}
 use Rattle.rebac.proofs.FormLaws.{pair-word-over}
 use Rattle.rebac.proofs.Conversion.{converts-verdict, mined-converts}
 
@@ -28,12 +27,8 @@ module _ (M : Matter) where
   abbrev inUse : Word → Bool
   inUse w = leb 1 (length w) && allOf (inLanguage M) w
 
-  has-some : (p : Pair) → List·Memᴰ p (pairsOf (M .parties)) → (w : Word) → has (enlarged M) p w ≡ true → 1 ≤ length w
-  has-some p m [] h = both h (no-empty-word (enlarged M) p (pairs-out (M .parties) m .different))
-  has-some p m (s ∷ w) h = omega arith
-
   has-in-use : (p : Pair) → List·Memᴰ p (pairsOf (M .parties)) → (w : Word) → has (enlarged M) p w ≡ true → inUse w ≡ true
-  has-in-use p m w h = and-both (le-leb 1 (length w) (has-some p m w h)) (all-of (inLanguage M) w (λ s n. listed-language M s (pair-word-over M p w h s n)))
+  has-in-use p m w h = and-both (le-leb 1 (length w) (has-some (enlarged M) p (pairs-out (M .parties) m .different) w h)) (all-of (inLanguage M) w (λ s n. listed-language M s (pair-word-over M p w h s n)))
 
   -- words in use of at most D symbols are the matter's
   in-use-word : (w : Word) → inUse w ≡ true → length w ≤ M .longest → MatterWord M w

@@ -120,9 +120,10 @@ module _ (M : Matter) where
   pub shared-words : (p q : Pair) → verdictOf M ≡ rivalled p q → (w : Word) → List·Memᴰ w (pairWords M p) → HasPath (enlarged M) p w × HasPath (enlarged M) q w
   unfolding pairWords problemOf problemOver
   shared-words p q v w m =
-      let r : (1 ≤ score M p w) × (score M p w ≤ score M q w) = rival-verdict p q v .shared w m in (
-        has-out (enlarged M) p w (sym (score-has p w) ∙ le-leb 1 (score M p w) (r .0)),
-        has-out (enlarged M) q w (sym (score-has q w) ∙ le-leb 1 (score M q w) (omega (arith, r .0, r .1))),
+      let r : (1 ≤ score M p w) × (score M p w ≤ score M q w) = rival-verdict p q v .shared w m in
+      let h : 1 ≤ length w = pair-words-out p w m .0 .some in (
+        has-out (enlarged M) p w h (sym (score-has p w) ∙ le-leb 1 (score M p w) (r .0)),
+        has-out (enlarged M) q w h (sym (score-has q w) ∙ le-leb 1 (score M q w) (omega (arith, r .0, r .1))),
       )
 
 term-ones : (t : List Word) → plainTerm (map one t) ≡ t

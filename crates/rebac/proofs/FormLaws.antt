@@ -23,7 +23,7 @@ use Rattle.rebac.specs.NextWord.{Finds, Later, nextWord}
 use Rattle.rebac.specs.Options.{orElse}
 use Rattle.rebac.specs.Forms.{Formed, Extends, HasForm, SameLength, Longer, NextUpTo, Place, exactly, from, allows, Fits, free, fixedThenFree, form, placeGraph, findForm, leastSymbol, complete, nextSameLength, firstLonger, searchNext, nextByForms}
 use Rattle.rebac.proofs.LexOrder.{by-first, first-lower, first-same, before-irreflexive, before-transitive}
-use Rattle.rebac.proofs.Reach.{has-out, has-in}
+use Rattle.rebac.proofs.Reach.{has-walk, walk-has}
 use Rattle.rebac.proofs.SymbolsLaws.{holds-listed, alphabet-ascending}
 use Rattle.rebac.proofs.SearchLaws.{Agree}
 use Rattle.rebac.proofs.NextWordLaws.{next-finds, finds-same}
@@ -158,21 +158,21 @@ module _ (R : Word → Word → Bool) where
 
 module _ (al : List ℕ) (g : Graph ℕ) (listed : (u v s : ℕ) → g .edge u v s ≡ true → List·Memᴰ s al) (p : Pair) where
   pub has-over : (w : Word) → has g p w ≡ true → Over al w
-  has-over w h = let r = has-out g p w h in walk-over al g listed (p .first) (p .second) (r .0) w (r .1 .walk)
+  has-over w h = let r = has-walk g p w h in walk-over al g listed (p .first) (p .second) (r .0) w (r .1 .walk)
 
   -- the search succeeds exactly where the pair has a word of the form
   pub find-form-out : (xs : List Place) → findForm al g p xs ≡ true → (w : Word) × Formed g p xs w
   unfolding findForm placeGraph
   find-form-out xs e =
-      let r = has-out (placeGraph al g) p xs e in
+      let r = has-walk (placeGraph al g) p xs e in
       let k = walk-out al g (p .first) (r .0) xs (p .second) (r .1 .walk) in
-      (k .word, record { fits = k .fits; held = has-in g p (k .word) (r .0) (record { walk = k .walk; simple = r .1 .simple }) })
+      (k .word, record { fits = k .fits; held = walk-has g p (k .word) (r .0) (record { walk = k .walk; simple = r .1 .simple }) })
 
   pub find-form-in : (xs : List Place) (w : Word) → Formed g p xs w → findForm al g p xs ≡ true
   unfolding findForm placeGraph
   find-form-in xs w f =
-      let r = has-out g p w (f .held) in
-      has-in (placeGraph al g) p xs (r .0) (record { walk = walk-in al g (p .first) (r .0) xs (p .second) w (f .fits) (has-over w (f .held)) (r .1 .walk); simple = r .1 .simple })
+      let r = has-walk g p w (f .held) in
+      walk-has (placeGraph al g) p xs (r .0) (record { walk = walk-in al g (p .first) (r .0) xs (p .second) w (f .fits) (has-over w (f .held)) (r .1 .walk); simple = r .1 .simple })
 
   pub find-form-iff : (xs : List Place) → (findForm al g p xs ≡ true) ↔ ((w : Word) × Formed g p xs w)
   find-form-iff xs = (find-form-out xs, λ r. find-form-in xs (r .0) (r .1))

@@ -22,8 +22,8 @@ use Rattle.rebac.proofs.SearchLaws.{long-word, count-more}
 -- Lemma 4.4, for the four languages at once: the path variations of Definition 4.1 are the paths of the enlarged graph
 pub lemma-4-4 : (M : Matter) (p : Pair) (ts : List (Triple ℕ)) → VariationPath M p ts ↔ TriplePath (enlarged M) p ts
 lemma-4-4 M p ts = (
-  λ r. record { linked = r .linked; simple = r .simple; edges = λ t m. holds-in M (t .start) (t .finish) (t .symbol) (r .admitted t m); inside = λ t m. r .admitted t m .second },
-  λ r. record { linked = r .linked; simple = r .simple; admitted = λ t m. holds-out M (t .start) (t .finish) (t .symbol) (r .edges t m) },
+  λ r. record { different = r .different; linked = r .linked; simple = r .simple; edges = λ t m. holds-in M (t .start) (t .finish) (t .symbol) (r .admitted t m); inside = λ t m. r .admitted t m .second },
+  λ r. record { different = r .different; linked = r .linked; simple = r .simple; admitted = λ t m. holds-out M (t .start) (t .finish) (t .symbol) (r .edges t m) },
 )
 
 -- Definitions 3.4, 3.5 and 4.1 against 01's path: a pair has a word exactly where a path variation has it as its label

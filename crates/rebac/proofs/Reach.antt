@@ -10,8 +10,8 @@ use lib.Dec.{eqb, leb, ltb}
 use lib.ListN.{length}
 use borrow.Author.Tests.{eqb-true, eq-eqb, not-true, le-leb, leb-true, leb-false, lt-leb}
 use Rattle.lists.specs.Lists.{filterBy, member, range}
-use Rattle.lists.specs.Order.{Ascending, Distinct, headOf, sumOf}
-use Rattle.lists.proofs.Cases.{by-test, by-found, by-mem, clash, both, and-left, and-right}
+use Rattle.lists.specs.Order.{Ascending, Distinct, sumOf}
+use Rattle.lists.proofs.Cases.{by-test, by-mem, clash, both, and-left, and-right}
 use Rattle.lists.proofs.ListLaws.{filter-in, filter-out, flat-in, flat-out, map-in, map-out, member-in, member-not, range-in, range-out}
 use Rattle.lists.proofs.OrderLaws.{ascending-filter, ascending-distinct, range-ascending, head-least, head-in, head-none, sum-any, sum-filter, onlyIf, length-map, length-flat}
 use Rattle.rebac.specs.Matter.{Pair}
@@ -29,11 +29,22 @@ module _ {S : Type 0} (g : Graph S) where
     pub simple : Distinct via
     pub unseen : (x : ℕ) → List·Memᴰ x via → List·Memᴰ x seen → ⊥
 
-  pub onward-path : (p : Pair) (w : List S) (via : List ℕ) → Onward (p .first ∷ []) (p .first) (p .second) w via → Path g p w via
-  onward-path p w via o = record { walk = o .walk; simple = (λ m. o .unseen (p .first) m (List·Memᴰ·head refl), o .simple) }
+  -- a path but for the number of its symbols: from a party to itself also the walk that goes nowhere
+  pub record SimpleWalk (p : Pair) (w : List S) (via : List ℕ) : Type 0 where
+    pub walk : Walk g (p .first) via w (p .second)
+    pub simple : Distinct (p .first ∷ via)
 
-  pub path-onward : (p : Pair) (w : List S) (via : List ℕ) → Path g p w via → Onward (p .first ∷ []) (p .first) (p .second) w via
-  path-onward p w via r = record { walk = r .walk; simple = r .simple .1; unseen = λ x m n. by-mem n (λ q. r .simple .0 (rw q at m)) (λ k. List·Memᴰ·not-nil k) }
+  pub path-walk : (p : Pair) (w : List S) (via : List ℕ) → Path g p w via → SimpleWalk p w via
+  path-walk p w via r = record { walk = r .walk; simple = r .simple }
+
+  pub walk-path : (p : Pair) (w : List S) (via : List ℕ) → 1 ≤ length w → SimpleWalk p w via → Path g p w via
+  walk-path p w via h r = record { some = h; walk = r .walk; simple = r .simple }
+
+  pub onward-walk : (p : Pair) (w : List S) (via : List ℕ) → Onward (p .first ∷ []) (p .first) (p .second) w via → SimpleWalk p w via
+  onward-walk p w via o = record { walk = o .walk; simple = (λ m. o .unseen (p .first) m (List·Memᴰ·head refl), o .simple) }
+
+  pub walk-onward : (p : Pair) (w : List S) (via : List ℕ) → SimpleWalk p w via → Onward (p .first ∷ []) (p .first) (p .second) w via
+  walk-onward p w via r = record { walk = r .walk; simple = r .simple .1; unseen = λ x m n. by-mem n (λ q. r .simple .0 (rw q at m)) (λ k. List·Memᴰ·not-nil k) }
 
   -- one step onward
   onward-cons : (seen : List ℕ) (a b : ℕ) (s : S) (w : List S) (c : ℕ) (l : List ℕ) → (c < g .parties) → g .edge a c s ≡ true → member c seen ≡ false → Onward (c ∷ seen) c b w l → Onward seen a b (s ∷ w) (c ∷ l)
@@ -113,28 +124,50 @@ module _ {S : Type 0} (g : Graph S) where
   pub reach-in : (seen : List ℕ) (a b : ℕ) (w : List S) (via : List ℕ) → Onward seen a b w via → reach g seen a b w ≡ true
   reach-in seen a b w via o = sym (routes-reach seen a b w) ∙ one-some (routes g seen a b w) (routes-in seen a b w via o)
 
-  pub has-out : (p : Pair) (w : List S) → has g p w ≡ true → HasPath g p w
+  -- the test is true exactly where a walk exists in which no party occurs twice
+  pub has-walk : (p : Pair) (w : List S) → has g p w ≡ true → (via : List ℕ) × SimpleWalk p w via
   unfolding has
-  has-out p w e = let r = reach-out (p .first ∷ []) (p .first) (p .second) w e in (r .0, onward-path p w (r .0) (r .1))
+  has-walk p w e = let r = reach-out (p .first ∷ []) (p .first) (p .second) w e in (r .0, onward-walk p w (r .0) (r .1))
+
+  pub walk-has : (p : Pair) (w : List S) (via : List ℕ) → SimpleWalk p w via → has g p w ≡ true
+  unfolding has
+  walk-has p w via r = reach-in (p .first ∷ []) (p .first) (p .second) w via (walk-onward p w via r)
+
+  -- for a word of one symbol or more that is a path
+  pub has-out : (p : Pair) (w : List S) → 1 ≤ length w → has g p w ≡ true → HasPath g p w
+  has-out p w h e = let r = has-walk p w e in (r .0, walk-path p w (r .0) h (r .1))
 
   pub has-in : (p : Pair) (w : List S) (via : List ℕ) → Path g p w via → has g p w ≡ true
-  unfolding has
-  has-in p w via r = reach-in (p .first ∷ []) (p .first) (p .second) w via (path-onward p w via r)
+  has-in p w via r = walk-has p w via (path-walk p w via r)
 
-  -- the test is true exactly where a path exists
-  pub has-iff : (p : Pair) (w : List S) → (has g p w ≡ true) ↔ HasPath g p w
-  has-iff p w = (has-out p w, λ r. has-in p w (r .0) (r .1))
+  -- two different parties have no word but of one symbol or more
+  pub has-some : (p : Pair) → (p .first ≡ p .second → ⊥) → (w : List S) → has g p w ≡ true → 1 ≤ length w
+  unfolding has reach
+  has-some p d [] e = absurd (d (eqb-true (p .first) (p .second) e))
+  has-some p d (s ∷ w) e = omega arith
+
+  -- so for a pair of two different parties the test is true exactly where a path exists
+  pub has-iff : (p : Pair) → (p .first ≡ p .second → ⊥) → (w : List S) → (has g p w ≡ true) ↔ HasPath g p w
+  has-iff p d w = (λ e. has-out p w (has-some p d w e) e, λ r. has-in p w (r .0) (r .1))
 
   -- the paths listed are the paths
   pub paths-in : (p : Pair) (w : List S) (via : List ℕ) → Path g p w via → List·Memᴰ (p .first ∷ via) (pathsOf g p w)
   unfolding pathsOf
-  paths-in p w via r = map-in (λ l. p .first ∷ l) (routes g (p .first ∷ []) (p .first) (p .second) w) (routes-in (p .first ∷ []) (p .first) (p .second) w via (path-onward p w via r))
+  paths-in p w via r = map-in (λ l. p .first ∷ l) (routes g (p .first ∷ []) (p .first) (p .second) w) (routes-in (p .first ∷ []) (p .first) (p .second) w via (walk-onward p w via (path-walk p w via r)))
 
-  pub paths-out : (p : Pair) (w : List S) {l : List ℕ} → List·Memᴰ l (pathsOf g p w) → (via : List ℕ) × (l ≡ p .first ∷ via) × Path g p w via
+  pub walks-out : (p : Pair) (w : List S) {l : List ℕ} → List·Memᴰ l (pathsOf g p w) → (via : List ℕ) × (l ≡ p .first ∷ via) × SimpleWalk p w via
   unfolding pathsOf
-  paths-out p w m =
+  walks-out p w m =
       let r = map-out (λ l. p .first ∷ l) (routes g (p .first ∷ []) (p .first) (p .second) w) m in
-      (r .0, r .2, onward-path p w (r .0) (routes-out (p .first ∷ []) (p .first) (p .second) w (r .1)))
+      (r .0, r .2, onward-walk p w (r .0) (routes-out (p .first ∷ []) (p .first) (p .second) w (r .1)))
+
+  pub paths-out : (p : Pair) (w : List S) → 1 ≤ length w → {l : List ℕ} → List·Memᴰ l (pathsOf g p w) → (via : List ℕ) × (l ≡ p .first ∷ via) × Path g p w via
+  paths-out p w h m = let r = walks-out p w m in (r .0, r .1, walk-path p w (r .0) h (r .2))
+
+  -- and there is one exactly where the pair has the word
+  pub paths-has : (p : Pair) (w : List S) → leb 1 (length (pathsOf g p w)) ≡ has g p w
+  unfolding pathsOf has
+  paths-has p w = ap (leb 1) (length-map (λ l. p .first ∷ l) (routes g (p .first ∷ []) (p .first) (p .second) w)) ∙ routes-reach (p .first ∷ []) (p .first) (p .second) w
 
   -- and they stand in order, the lower party first at the first difference, each once
   routes-ascending : (seen : List ℕ) (a b : ℕ) (w : List S) → Ascending lexLess (routes g seen a b w)
@@ -152,9 +185,8 @@ module _ {S : Type 0} (g : Graph S) where
 
   -- the count cut at a cap is 1 or more exactly where the pair has the word
   pub count-has : (cap : ℕ) → 1 ≤ cap → (p : Pair) (w : List S) → leb 1 (pathCount g cap p w) ≡ has g p w
-  unfolding pathCount pathsOf has
-  count-has cap h p w =
-      min-one cap h (length (pathsOf g p w)) ∙ ap (leb 1) (length-map (λ l. p .first ∷ l) (routes g (p .first ∷ []) (p .first) (p .second) w)) ∙ routes-reach (p .first ∷ []) (p .first) (p .second) w
+  unfolding pathCount
+  count-has cap h p w = min-one cap h (length (pathsOf g p w)) ∙ paths-has p w
 
   -- with cap 1 the count is 1 where the pair has the word, else 0
   pub count-one : (p : Pair) (w : List S) → pathCount g 1 p w ≡ onlyIf (has g p w) 1
@@ -166,9 +198,13 @@ module _ {S : Type 0} (g : Graph S) where
       (λ q. let k : min 1 (length (pathsOf g p w)) < 1 = leb-false _ _ (e ∙ q) in rw q (omega arith))
 
   -- the least path is a path, no other stands before it, and there is none exactly where the pair lacks the word
-  pub least-is-path : (p : Pair) (w : List S) {l : List ℕ} → leastPath g p w ≡ some l → (via : List ℕ) × (l ≡ p .first ∷ via) × Path g p w via
+  pub least-is-walk : (p : Pair) (w : List S) {l : List ℕ} → leastPath g p w ≡ some l → (via : List ℕ) × (l ≡ p .first ∷ via) × SimpleWalk p w via
   unfolding leastPath
-  least-is-path p w e = paths-out p w (head-in (pathsOf g p w) e)
+  least-is-walk p w e = walks-out p w (head-in (pathsOf g p w) e)
+
+  pub least-is-path : (p : Pair) (w : List S) → 1 ≤ length w → {l : List ℕ} → leastPath g p w ≡ some l → (via : List ℕ) × (l ≡ p .first ∷ via) × Path g p w via
+  unfolding leastPath
+  least-is-path p w h e = paths-out p w h (head-in (pathsOf g p w) e)
 
   pub least-is-least : (p : Pair) (w : List S) {l : List ℕ} → leastPath g p w ≡ some l → (via : List ℕ) → Path g p w via → (l ≡ p .first ∷ via) ⊎ (lexLess l (p .first ∷ via) ≡ true)
   unfolding leastPath
@@ -176,7 +212,4 @@ module _ {S : Type 0} (g : Graph S) where
 
   pub least-none : (p : Pair) (w : List S) → (leastPath g p w ≡ none) ↔ (has g p w ≡ false)
   unfolding leastPath
-  least-none p w = (
-    λ e. by-test (has g p w) (λ h. let r = has-out p w h in absurd (head-none (pathsOf g p w) e (paths-in p w (r .0) (r .1)))) (λ h. h),
-    λ h. by-found (headOf (pathsOf g p w)) (λ e. e) (λ l e. let r = paths-out p w (head-in (pathsOf g p w) e) in both (has-in p w (r .0) (r .2)) h),
-  )
+  least-none p w = rw (← paths-has p w) (head-none (pathsOf g p w))

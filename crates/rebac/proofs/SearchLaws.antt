@@ -16,8 +16,8 @@ use Rattle.lists.proofs.OrderLaws.{onlyIf, sum-mono, length-map}
 use Rattle.lists.proofs.Pointwise.{filter-same, filter-range, flat-same, distinct-short}
 use Rattle.rebac.specs.Matter.{Pair, pair}
 use Rattle.rebac.specs.Paths.{Graph, Walk, Path, reach, has, candidates, routes, pathsOf, leastPath, pathCount}
-use Rattle.rebac.proofs.Triples.{walk-length, walk-inside}
-use Rattle.rebac.proofs.Reach.{routes-count, routes-reach, reach-out, has-out, has-in, least-is-path}
+use Rattle.rebac.proofs.Triples.{walk-length, walk-inside, walk-end}
+use Rattle.rebac.proofs.Reach.{routes-count, routes-reach, reach-out, has-walk, walk-has, least-is-walk}
 
 module _ {S : Type 0} (g h : Graph S) where
   -- the two graphs agree on the symbols of the word: inside the first one's parties, and the second has no edge out of them
@@ -101,7 +101,7 @@ module _ {S : Type 0} (g : Graph S) where
   path-size p w via r = ap suc (walk-length g (p .first) (p .second) via w (r .walk))
 
   pub least-size : (p : Pair) (w : List S) {l : List ℕ} → leastPath g p w ≡ some l → length l ≡ suc (length w)
-  least-size p w e = let r = least-is-path g p w e in ap length (r .1) ∙ path-size p w (r .0) (r .2)
+  least-size p w e = let r = least-is-walk g p w e in ap length (r .1) ∙ ap suc (walk-length g (p .first) (p .second) (r .0) w (r .2 .walk))
 
   -- two different parties do not have the empty word
   pub no-empty-word : (p : Pair) → (p .first ≡ p .second → ⊥) → has g p [] ≡ false
@@ -111,7 +111,7 @@ module _ {S : Type 0} (g : Graph S) where
   -- a path has at most as many parties as there are, so a word of n symbols or more is had by none
   pub path-short : (p : Pair) (w : List S) → p .first < g .parties → has g p w ≡ true → length w < g .parties
   path-short p w l e =
-      let r = has-out g p w e in
+      let r = has-walk g p w e in
       let q : length (p .first ∷ r .0) ≤ g .parties = distinct-short (g .parties) (p .first ∷ r .0) (r .1 .simple) (λ x m. by-mem m (λ z. rw z l) (λ n. walk-inside g (p .first) (p .second) (r .0) w (r .1 .walk) x n)) in
       omega (arith, walk-length g (p .first) (p .second) (r .0) w (r .1 .walk), q)
 
@@ -129,19 +129,10 @@ module _ {S : Type 0} (g : Graph S) where
       let q : c ≡ b = eqb-true c b (and-right (g .edge a c s) _ y) in
       both (rw q at (and-both (and-left (not (member c seen)) _ x) (and-left (g .edge a c s) _ y))) e) ∙ sym e)
 
-  walk-end : (a b : ℕ) (via : List ℕ) (s : S) (w : List S) → Walk g a via (s ∷ w) b → List·Memᴰ b via
-  walk-end a b [] s w k = absurd k
-  walk-end a b (c ∷ via) s [] k = go via (k .2)
-    where
-      go : (l : List ℕ) → Walk g c l [] b → List·Memᴰ b (c ∷ l)
-      go [] e = List·Memᴰ·head (sym e)
-      go (x ∷ l) e = absurd e
-  walk-end a b (c ∷ via) s (t ∷ w) k = List·Memᴰ·tail (walk-end c b via t w (k .2))
-
   -- the second party may be left out of the candidates while symbols remain: once seen, it is not reached again
   pub reach-seen : (seen : List ℕ) (a b : ℕ) (s : S) (w : List S) → List·Memᴰ b seen → reach g seen a b (s ∷ w) ≡ false
   reach-seen seen a b s w m =
-      by-test (reach g seen a b (s ∷ w)) (λ e. let r = reach-out g seen a b (s ∷ w) e in absurd (r .1 .unseen b (walk-end a b (r .0) s w (r .1 .walk)) m)) (λ e. e)
+      by-test (reach g seen a b (s ∷ w)) (λ e. let r = reach-out g seen a b (s ∷ w) e in absurd (r .1 .unseen b (walk-end g a b (r .0) s w (r .1 .walk)) m)) (λ e. e)
 
   -- the search depends only on which parties were seen
   pub reach-same-seen : (w : List S) (seen past : List ℕ) (a b : ℕ) → ((c : ℕ) → member c seen ≡ member c past) → reach g seen a b w ≡ reach g past a b w
@@ -166,5 +157,5 @@ module _ {S : Type 0} (g : Graph S) (f : ℕ → ℕ) (inside : (u : ℕ) → u 
 
   pub has-carried : (p : Pair) (w : List S) → has g p w ≡ true → has g (pair (f (p .first)) (f (p .second))) w ≡ true
   has-carried p w e =
-      let r = has-out g p w e in
-      has-in g (pair (f (p .first)) (f (p .second))) w (map f (r .0)) (record { walk = carry-walk (p .first) (p .second) (r .0) w (r .1 .walk); simple = carry-distinct (p .first ∷ r .0) (r .1 .simple) })
+      let r = has-walk g p w e in
+      walk-has g (pair (f (p .first)) (f (p .second))) w (map f (r .0)) (record { walk = carry-walk (p .first) (p .second) (r .0) w (r .1 .walk); simple = carry-distinct (p .first ∷ r .0) (r .1 .simple) })

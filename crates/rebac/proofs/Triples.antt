@@ -3,7 +3,8 @@ use mathlib.Core.Path.{_≡_, refl, sym, ap, _∙_}
 use mathlib.Core.Logic.{_↔_}
 use mathlib.Core.Bool.{true, false}
 use mathlib.Core.List.{List, [], _∷_, List·Memᴰ, List·Memᴰ·head, List·Memᴰ·tail, List·Memᴰ·not-nil}
-use Prim.Native.Nat.{ℕ, suc, _<_}
+use Prim.Native.Nat.{ℕ, suc, _≤_, _<_}
+use native.Mathlib.Omega.{arith}
 use lib.ListN.{length}
 use Rattle.lists.specs.Order.{Distinct}
 use Rattle.lists.proofs.Cases.{by-mem, both}
@@ -23,6 +24,25 @@ module _ {S : Type 0} (g : Graph S) where
   walk-inside a b [] w k x m = absurd (List·Memᴰ·not-nil m)
   walk-inside a b (c ∷ l) [] k x m = absurd k
   walk-inside a b (c ∷ l) (s ∷ w) k x m = by-mem m (λ e. rw e (k .0)) (λ n. walk-inside c b l w (k .2) x n)
+
+  pub walk-end : (a b : ℕ) (via : List ℕ) (s : S) (w : List S) → Walk g a via (s ∷ w) b → List·Memᴰ b via
+  walk-end a b [] s w k = absurd k
+  walk-end a b (c ∷ via) s [] k = go via (k .2)
+    where
+      go : (l : List ℕ) → Walk g c l [] b → List·Memᴰ b (c ∷ l)
+      go [] e = List·Memᴰ·head (sym e)
+      go (x ∷ l) e = absurd e
+  walk-end a b (c ∷ via) s (t ∷ w) k = List·Memᴰ·tail (walk-end c b via t w (k .2))
+
+  -- one symbol or more and no party twice: the two ends differ
+  pub path-ends : (p : Pair) (w : List S) (via : List ℕ) → Path g p w via → p .first ≡ p .second → ⊥
+  path-ends p [] via r e = omega (arith, r .some)
+  path-ends p (s ∷ w) via r e = r .simple .0 (rw e (walk-end (p .first) (p .second) via s w (r .walk)))
+
+  -- two ends that differ: one triple or more
+  linked-some : (a b : ℕ) (ts : List (Triple S)) → (a ≡ b → ⊥) → Linked a ts b → 1 ≤ length (pathLabel ts)
+  linked-some a b [] d k = absurd (d k)
+  linked-some a b (t ∷ ts) d k = omega arith
 
   -- the triples of a walk give back its word and its parties
   pub parts-of : (a b : ℕ) (l : List ℕ) (w : List S) → Walk g a l w b → (pathLabel (triples a l w) ≡ w) × (finishes (triples a l w) ≡ l)
@@ -75,11 +95,11 @@ module _ {S : Type 0} (g : Graph S) where
   pub path-triples : (p : Pair) (w : List S) (via : List ℕ) → Path g p w via → TriplePath g p (triples (p .first) via w)
   path-triples p w via r =
       let e = each-edge (p .first) (p .second) via w (r .walk) in
-      record { linked = linked-of (p .first) (p .second) via w (r .walk); simple = no-return-of (p .first) (p .second) via w (r .walk) (r .simple); edges = λ t m. e t m .0; inside = λ t m. e t m .1 }
+      record { different = path-ends p w via r; linked = linked-of (p .first) (p .second) via w (r .walk); simple = no-return-of (p .first) (p .second) via w (r .walk) (r .simple); edges = λ t m. e t m .0; inside = λ t m. e t m .1 }
 
   pub triples-path : ((u : ℕ) (s : S) → g .edge u u s ≡ false) → (p : Pair) (ts : List (Triple S)) → TriplePath g p ts → Path g p (pathLabel ts) (finishes ts)
   triples-path loop p ts r =
-      record { walk = walk-of (p .first) (p .second) ts (r .linked) (λ t m. (r .edges t m, r .inside t m)); simple = distinct-of loop (p .first) (p .second) ts (r .linked) (r .simple) (r .edges) }
+      record { some = linked-some (p .first) (p .second) ts (r .different) (r .linked); walk = walk-of (p .first) (p .second) ts (r .linked) (λ t m. (r .edges t m, r .inside t m)); simple = distinct-of loop (p .first) (p .second) ts (r .linked) (r .simple) (r .edges) }
 
   -- Definitions 3.4 and 3.5 against 01's sentence: the same words
   pub same-paths : ((u : ℕ) (s : S) → g .edge u u s ≡ false) → (p : Pair) (w : List S) → HasPath g p w ↔ ((ts : List (Triple S)) × TriplePath g p ts × (pathLabel ts ≡ w))

@@ -3,7 +3,7 @@ use mathlib.Core.Path.{_≡_}
 use mathlib.Core.Bool.{Bool, true, false, not, _&&_}
 use mathlib.Core.List.{List, [], _∷_, map, List·Memᴰ}
 use mathlib.Core.Option.{Option}
-use Prim.Native.Nat.{ℕ, _<_, min}
+use Prim.Native.Nat.{ℕ, _≤_, _<_, min}
 use lib.Dec.{eqb}
 use lib.ListN.{length}
 use Rattle.lists.specs.Lists.{anyOf, filterBy, flatMap, member, range}
@@ -32,8 +32,9 @@ module _ {S : Type 0} where
   NoReturn [] = Unit {0}
   NoReturn (t ∷ ts) = ((x : Triple S) → List·Memᴰ x ts → x .finish ≡ t .start → ⊥) × NoReturn ts
 
-  -- Definition 3.5: a linked sequence of which each triple is an edge
+  -- Definition 3.5: a linked sequence of which each triple is an edge, for a vertex pair (u, v) "where u ≠ v" (3.4)
   pub record TriplePath (g : Graph S) (p : Pair) (ts : List (Triple S)) : Type 0 where
+    pub different : p .first ≡ p .second → ⊥
     pub linked : Linked (p .first) ts (p .second)
     pub simple : NoReturn ts
     pub edges : (t : Triple S) → List·Memᴰ t ts → g .edge (t .start) (t .finish) (t .symbol) ≡ true
@@ -60,9 +61,10 @@ module _ {S : Type 0} where
   Walk g a (c ∷ l) [] b = ⊥
   Walk g a (c ∷ l) (s ∷ w) b = (c < g .parties) × (g .edge a c s ≡ true) × Walk g c l w b
 
-  -- 01: "a walk .. in which no party occurs twice, its two ends included"; `via` are the parties after the first.
-  -- The two parties of a pair differ, so the word has one symbol or more.
+  -- 01: "A path is a walk in the enlarged graph along one or more symbols in which no party occurs twice, its two ends included."
+  -- `via` are the parties after the first.
   pub record Path (g : Graph S) (p : Pair) (w : List S) (via : List ℕ) : Type 0 where
+    pub some : 1 ≤ length w
     pub walk : Walk g (p .first) via w (p .second)
     pub simple : Distinct (p .first ∷ via)
 

@@ -30,6 +30,7 @@ pub record Held (M : Matter) (u v s : ℕ) : Type 0 where
 
 -- Definition 4.1: in languages 0 to 3 the simple path, SCP, SPP and SCPP of the relationship graph
 pub record VariationPath (M : Matter) (p : Pair) (ts : List (Triple ℕ)) : Type 0 where
+  pub different : p .first ≡ p .second → ⊥
   pub linked : Linked (p .first) ts (p .second)
   pub simple : NoReturn ts
   pub admitted : (t : Triple ℕ) → List·Memᴰ t ts → Held M (t .start) (t .finish) (t .symbol)
