@@ -3,10 +3,11 @@
     python3 tests/run_permitconv.py PATH_OF_PERMITCONV_BINARY
 
 The files are those of converting.py, the examples, some of large_console.py, and
-inputs about as long as the program reads. The seeds are fixed. The last line
-printed is `N passed, M failed`: N counts files; M counts files and, beside
-them, demands on the set of files that are not met. The exit status is 0 only
-where M is 0.
+inputs about as long as the program reads. Then streams.py tries standard input
+and output that fail or are slow. The seeds are fixed. The last line printed is
+`N passed, M failed`: N counts files and trials; M counts these and, beside them,
+demands on the set of files that are not met. The exit status is 0 only where M
+is 0.
 """
 
 import os
@@ -23,6 +24,7 @@ import large_console
 import make_examples
 import run_paths
 import stored
+import streams
 
 GRAPHS = 450
 WIDE_GRAPHS = 15
@@ -109,11 +111,13 @@ DEMANDS.update({"refused %d" % number: 10 for number in range(1, 9)})
 def printed(binary, data):
     """What the program prints, or what went wrong."""
     try:
-        ended = subprocess.run([binary], input=data, stdout=subprocess.PIPE, timeout=SECONDS_FOR_FILE)
+        ended = subprocess.run([binary], input=data, stdout=subprocess.PIPE, stderr=subprocess.PIPE, timeout=SECONDS_FOR_FILE)
     except (OSError, subprocess.SubprocessError) as error:
         return "(%s)" % error
     text = ended.stdout.decode("latin-1")
-    return text if ended.returncode == 0 else "(status %d) %s" % (ended.returncode, text)
+    if ended.returncode != 0 or ended.stderr:
+        return "(status %d, said %r) %s" % (ended.returncode, ended.stderr, text)
+    return text
 
 
 def hold(tally, binary, kind, data, text):
@@ -123,6 +127,23 @@ def hold(tally, binary, kind, data, text):
         "  expected: %r" % text[:400], "  printed:  %r" % found[:400]))
 
 
+def hold_streams(tally, binary, made):
+    """The trials of streams.py, with files of those made before."""
+    whole = [(data, text) for kind, data, text in made if kind in ("written in 01", "example", "longer than 35,784", "the longest legal file")]
+    beyond = [min(((data, text) for _, data, text in made if len(text) > room), key=lambda pair: len(pair[1]), default=None)
+              for room in (streams.SMALL_PIPE, streams.USUAL_PIPE)]
+    if not whole or None in beyond:
+        tally.fault("no file for a trial")
+        return
+    for trial in streams.trials(binary, whole, *beyond):
+        tally.hold(trial.found == trial.wanted, lambda: (
+            "difference in a trial: %s" % trial.name, "  expected: %r" % (shown(trial.wanted),), "  found:    %r" % (shown(trial.found),)))
+
+
+def shown(ended):
+    return ended._replace(printed=ended.printed[:400])
+
+
 def main(arguments):
     tally = comparing.Tally()
     if len(arguments) != 2:
@@ -130,11 +151,13 @@ def main(arguments):
         return tally.close()
     binary = os.path.abspath(arguments[1])
     account, different = Counter(), set()
-    for kind, data, text in all_files(random.Random(808)):
+    made = list(all_files(random.Random(808)))
+    for kind, data, text in made:
         hold(tally, binary, kind, data, text)
         account.update(occurrences(kind, text))
         different.add(data)
     account["different files"] = len(different)
+    hold_streams(tally, binary, made)
     print(run_paths.account_text(account, "files"))
     for line in run_paths.unmet(account, dict(DEMANDS, **{"different files": 1500})):
         tally.fault(line)

@@ -4,9 +4,9 @@ ghost use lib.ListN.{length};
 ghost use Rattle.rebac.specs.Matter.{Matter};
 ghost use Rattle.graph.specs.Archive.{Shows};
 use graph::Archive;
-use house_file::Check;
-use paths::Next;
-use paths::Word;
+use house_layout::Check;
+use words::Next;
+use search::Word;
 
 fn wide(x: u8) -> usize {
     x as usize
@@ -39,7 +39,7 @@ fn has(a: Archive, first: usize, second: usize, w: Word) -> bool
     if graph::is_pair(a.parties, first, second) {
         if paths::legal_word(a.labels, a.language, a.longest, w) {
             let g = a.graph;
-            return paths::has_word(g, a.parties, first, second, w);
+            return search::has_word(g, a.parties, first, second, w);
         }
     }
     false
@@ -52,7 +52,7 @@ fn next(a: Archive, first: usize, second: usize, w: Word) -> Next
     if graph::is_pair(a.parties, first, second) {
         if paths::legal_word(a.labels, a.language, a.longest, w) {
             let g = a.graph;
-            return paths::next_word(g, a.parties, first, second, a.longest, w);
+            return words::next_word(g, a.parties, first, second, a.longest, w);
         }
     }
     Next {

@@ -11,7 +11,7 @@ use crate::print::line;
 use crate::print::text;
 use crate::refused;
 use paths::Reply;
-use paths::Word;
+use search::Word;
 
 // Whether a call has more than a file: a word and an output, or a rule list.
 pub fn has_more(call: u8) -> bool {

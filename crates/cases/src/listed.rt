@@ -8,8 +8,8 @@ use crate::print::line;
 use crate::print::text;
 use crate::refused;
 use graph::Archive;
-use house_file::Check;
-use house_file::Refusal;
+use house_layout::Check;
+use house_layout::Refusal;
 use rules::PermitReply;
 
 fn show_permit(f: Frame, file: &[u8], list: &[u8]) {
@@ -32,14 +32,14 @@ fn show_permit(f: Frame, file: &[u8], list: &[u8]) {
 fn show_text_in(a: Archive, list: &[u8], out: &mut [u8])
     requires { ⌜ ((M : Matter) × Shows M a) ⌝ }
 {
-    if !rules::check_list(list, a.labels, a.language, a.longest) {
+    if !rule_bytes::check_list(list, a.labels, a.language, a.longest) {
         refused(Refusal::RuleList);
         return;
     }
     if out.len() / 3 < list.len() {
         return;
     }
-    let k = rules::list_text(list, out);
+    let k = rule_text::list_text(list, out);
     if out.len() < k {
         return;
     }

@@ -3,7 +3,7 @@ ghost use mathlib.Core.Path.{_≡_};
 ghost use mathlib.Core.Bool.{true};
 ghost use Prim.Native.Nat.{_≤_};
 ghost use lib.ListN.{length};
-use house_file::Check;
+use house_layout::Check;
 use house_file::House;
 use libc::STDIN_FILENO;
 use libc::STDOUT_FILENO;
@@ -20,9 +20,9 @@ use print::hex_mask;
 use print::line;
 use print::text;
 
-pub fn refused(e: house_file::Refusal) {
+pub fn refused(e: house_layout::Refusal) {
     text(b" refused ");
-    decimal(house_file::number(e) as u64);
+    decimal(house_layout::number(e) as u64);
     line();
 }
 

@@ -11,7 +11,7 @@ use Rattle.lists.proofs.Cases.{by-test}
 use Rattle.rebac.specs.Verdict.{isConvertible}
 use Rattle.rebac.specs.Existence.{problemOf, verdictOf}
 use Rattle.house_file.specs.Check.{checkOf}
-use Rattle.house_file.specs.declared.reply.Check.the-variants.{Accepted, Refused}
+use Rattle.house_layout.specs.declared.reply.Check.the-variants.{Accepted, Refused}
 use Rattle.graph.specs.Archive.{matterOf}
 use Rattle.graph.proofs.LoadLaws.{accepted-limits}
 use Rattle.rules.specs.declared.call.PermitReply.{PermitReply}
@@ -22,7 +22,7 @@ use Rattle.conversion.specs.declared.verdict.VerdictReply.the-variants as verdi
 use Rattle.conversion.specs.declared.mine.MiningReply.{MiningReply}
 use Rattle.conversion.specs.declared.mine.MiningReply.the-variants as mining
 use Rattle.conversion.specs.Calls.{bytesOf, verdictCall, miningIn, miningCall, minedReply}
-use Rattle.conversion.proofs.RefusalNumbers.{number-apart, number-small}
+use Rattle.house_layout.proofs.RefusalNumbers.{number-apart, number-small}
 use Rattle.conversion.proofs.Demand3.{by-check, bytes-bound, length-bound, no-word-parties, rival-parties}
 use Rattle.console.specs.Packing.{packVerdict, packMining, packPermit, VerdictInRange, MiningInRange}
 

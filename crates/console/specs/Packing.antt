@@ -1,7 +1,7 @@
 -- How the replies of the exported calls go out: "each reply goes out as one unsigned 64-bit number, different replies of a call as different numbers" (01, "The calls").
 -- The lowest byte is the refusal's number, or tells which reply it is; its values stand in the bytes above.
 use Prim.Native.Nat.{ℕ, _+_, _*_, _<_}
-use Rattle.house_file.specs.Check.{numberOf}
+use Rattle.house_layout.specs.Reply.{numberOf}
 use Rattle.rules.specs.declared.call.PermitReply.{PermitReply}
 use Rattle.rules.specs.declared.call.PermitReply.the-variants as permit
 use Rattle.mining.specs.declared.build.Pair.{Pair}

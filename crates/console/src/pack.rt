@@ -10,7 +10,7 @@ pub fn pack_verdict(v: VerdictReply) -> u64
     ensures { λ r. ⌜ r ≡ packVerdict v ⌝ }
 {
     match v {
-        VerdictReply::Refused(x) => house_file::number(x) as u64,
+        VerdictReply::Refused(x) => house_layout::number(x) as u64,
         VerdictReply::Convertible(k) => 16 + 256 * (k as u64),
         VerdictReply::NoWord(p) => 17 + 256 * (p.first as u64) + 65536 * (p.second as u64),
         VerdictReply::Rival(p, q) => {
@@ -28,7 +28,7 @@ pub fn pack_mining(m: MiningReply) -> u64
     ensures { λ r. ⌜ r ≡ packMining m ⌝ }
 {
     match m {
-        MiningReply::Refused(x) => house_file::number(x) as u64,
+        MiningReply::Refused(x) => house_layout::number(x) as u64,
         MiningReply::Wrote(k) => 16 + 256 * (k as u64),
     }
 }
@@ -37,7 +37,7 @@ pub fn pack_permit(p: PermitReply) -> u64
     ensures { λ r. ⌜ r ≡ packPermit p ⌝ }
 {
     match p {
-        PermitReply::Refused(x) => house_file::number(x) as u64,
+        PermitReply::Refused(x) => house_layout::number(x) as u64,
         PermitReply::No => 16,
         PermitReply::Yes => 17,
     }

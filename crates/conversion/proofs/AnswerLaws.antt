@@ -14,8 +14,8 @@ use Rattle.rebac.specs.Verdict.{convertible, verdict, isConvertible}
 use Rattle.rebac.specs.Mining.{mine}
 use Rattle.rebac.specs.Existence.{problemOf, verdictOf, minedList, permitsPair}
 use Rattle.rebac.proofs.Conversion.{permits-one, mined-ones}
-use Rattle.house_file.specs.declared.reply.Refusal.the-variants.{Scratch, Inconvertible}
-use Rattle.house_file.specs.declared.reply.Refusal.{Refusal}
+use Rattle.house_layout.specs.declared.reply.Refusal.the-variants.{Scratch, Inconvertible}
+use Rattle.house_layout.specs.declared.reply.Refusal.{Refusal}
 use Rattle.graph.specs.declared.Archive.{Archive}
 use Rattle.graph.specs.Archive.{Shows}
 use Rattle.graph.specs.Legal.{isPair}

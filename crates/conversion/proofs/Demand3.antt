@@ -2,7 +2,7 @@
 use mathlib.Core.Path.{_≡_, refl, sym, ap, _∙_, subst}
 use mathlib.Core.Logic.{_↔_, _⊎_, inl, inr, ⊎-elim}
 use mathlib.Core.Bool.{Bool, true, false, not, _&&_}
-use mathlib.Core.List.{List, [], _∷_, _++_, map, List·Memᴰ, List·Memᴰ·head, List·Memᴰ·not-nil, List·Memᴰ·append-cases, Memᴰ·append-right}
+use mathlib.Core.List.{List, [], _∷_, _++_, map, List·Memᴰ, List·Memᴰ·head, List·Memᴰ·tail, List·Memᴰ·not-nil, List·Memᴰ·append-cases, Memᴰ·append-right}
 use mathlib.Core.Option.{none, some}
 use Prim.Native.Nat.{ℕ, zero, suc, _+_, _*_, _-_, _/_, _%_, _≤_, _<_}
 use native.Mathlib.Omega.{arith}
@@ -20,36 +20,39 @@ use Rattle.rebac.specs.Words.{Word, lexLess}
 use Rattle.rebac.specs.Paths.{has, leastPath}
 use Rattle.rebac.specs.Symbols.{enlarged}
 use Rattle.rebac.specs.Verdict.{convertible, noWord, rivalled, isConvertible, judge, rival, covers, spoils}
-use Rattle.rebac.specs.Existence.{problemOf, problemOver, verdictOf, minedList, plainTerm, plainList, permitsPair, Converts, MatterWord, score}
+use Rattle.rebac.specs.Existence.{problemOf, problemOver, verdictOf, minedList, plainTerm, plainList, permitsPair, ConvertsAny, Converts, MatterWord, score}
 use Rattle.rebac.specs.NextWord.{pairWords}
-use Rattle.rebac.proofs.SymbolsLaws.{listed-language}
+use Rattle.rebac.proofs.SymbolsLaws.{alphabet-below}
+use Rattle.rebac.proofs.AnyList.{any-list-verdict}
 use Rattle.rebac.proofs.PairsLaws.{pairs-in, pairs-out, pairs-ascending}
 use Rattle.rebac.proofs.Reach.{has-in, has-out, least-is-path, least-is-least, least-none}
 use Rattle.rebac.proofs.SearchLaws.{least-size}
 use Rattle.rebac.proofs.VerdictLaws.{judge-word, judge-no-rival, NoWord, Rivalled, is-convertible}
 use Rattle.rebac.proofs.Conversion.{score-has, score-one, pair-words-in, pair-words-out, mined-words, mined-terms-few, mined-items-few, no-word-verdict, rival-verdict, convertible-iff, mined-converts}
 use Rattle.house_file.specs.Check.{checkOf}
-use Rattle.house_file.specs.declared.reply.Check.{Check}
-use Rattle.house_file.specs.declared.reply.Check.the-variants.{Accepted, Refused}
-use Rattle.house_file.specs.declared.reply.Refusal.{Refusal}
+use Rattle.house_layout.specs.declared.reply.Check.{Check}
+use Rattle.house_layout.specs.declared.reply.Check.the-variants.{Accepted, Refused}
+use Rattle.house_layout.specs.declared.reply.Refusal.{Refusal}
 use Rattle.graph.specs.Archive.{matterOf, Limits}
 use Rattle.graph.specs.Legal.{isPair, legalSymbol}
 use Rattle.graph.proofs.LoadLaws.{accepted-limits}
+use Rattle.graph.proofs.LegalLaws.{pair-of, pair-is}
 use Rattle.paths.specs.Calls.{pathCall, found, writes, nothing, legalWord}
-use Rattle.paths.specs.declared.word.Word.{Word as WordValue}
+use Rattle.search.specs.declared.word.Word.{Word as WordValue}
 use Rattle.paths.specs.declared.call.Reply.the-variants.{Wrote as WrotePath}
-use Rattle.paths.proofs.CallLaws.{pair-of, path-answer}
-use Rattle.rules.specs.Reading.{wordOf}
+use Rattle.paths.proofs.CallLaws.{path-answer}
+use Rattle.paths.proofs.HandOutLaws.{value-legal}
+use Rattle.search.specs.Word.{wordOf, IsValue, Carries}
+use Rattle.search.proofs.ValueLaws.{value-carries, value-is}
 use Rattle.rules.specs.Permit.{permitReply, yesOrNo}
-use Rattle.rules.proofs.MatterLists.{legal-symbol, permit-of-mined}
+use Rattle.rules.proofs.MatterLists.{permit-of-mined}
 use Rattle.mining.specs.declared.build.Pair.{Pair as PairValue}
 use Rattle.conversion.specs.declared.verdict.VerdictReply.the-variants as reply
 use Rattle.conversion.specs.Calls.{listOf, bytesOf, replyOf, verdictIn, verdictCall, oneIf, tableOf, miningIn, miningCall, tooShort, writes as writesList}
 use Rattle.conversion.specs.declared.mine.MiningReply.the-variants.{Wrote}
-use Rattle.mining.proofs.GridLaws.{pair-is}
 use Rattle.conversion.proofs.SizeLaws.{term-bound, list-bound}
 use Rattle.conversion.proofs.ReplyLaws.{reply-convertible, reply-no-word, reply-rival, reply-refused}
-use Rattle.conversion.specs.Demands.{pairIn, Carries, HasWord, Wordless, IsRival, Hinders, FirstPair, ShowsPath, MinesList}
+use Rattle.conversion.specs.Demands.{pairIn, HasWord, Wordless, IsRival, Hinders, FirstPair, ShowsPath, MinesList}
 
 -- by the check's reply
 pub by-check : {G : Type 0} (c : Check) → (c ≡ Accepted → G) → ((x : Refusal) → c ≡ Refused x → G) → G
@@ -151,16 +154,11 @@ module _ (M : Matter) where
       let s : FirstPair M (IsRival M p) q = first-rival p q (r .word) (r .firstRival) in
       (first-hinders p (r .first) (record { permit = r .permit; why = inr (q, s .here) }), s)
 
--- a word value that carries a word of the matter is legal and not empty
-pub value-legal : (M : Matter) (v : Word) → MatterWord M v → (w : WordValue) → Carries w v → legalWord M w ≡ true
-unfolding legalWord
-value-legal M v h w c =
-    and-both {b = leb (w .len) (M .longest)} (rw (c .len) (le-leb (length v) (M .longest) (h .short)))
-    (rw (c .symbols) (all-of (legalSymbol (M .labels) (M .language)) v (λ s m. legal-symbol M s ∙ listed-language M s (h .over s m))))
-
--- every word of at most 31 symbols has a value
-pub value-carries : (v : Word) → length v ≤ 31 → Carries (wordOf v) v × (length (wordOf v .symbols) ≡ 31)
-value-carries v h = (record { len = refl; symbols = take-append-seam v (replicate (31 - length v) 0) }, omega (arith, length-append v (replicate (31 - length v) 0), length-replicate {A = ℕ} (31 - length v) 0))
+-- numbers below a bound are so at every place, and past the end there is 0
+symbol-byte : (v : Word) → ((s : ℕ) → List·Memᴰ s v → s < 256) → (i : ℕ) → getD v i 0 < 256
+symbol-byte [] f i = omega arith
+symbol-byte (s ∷ v) f zero = f s (List·Memᴰ·head refl)
+symbol-byte (s ∷ v) f (suc i) = symbol-byte v (λ t m. f t (List·Memᴰ·tail m)) i
 
 -- a table's byte by its place
 getD-up : (g : ℕ → ℕ) (a k i : ℕ) → i < k → getD (map g (upFrom a k)) i 0 ≡ g (a + i)
@@ -211,18 +209,18 @@ module _ (f : List ℕ) (e : checkOf f ≡ Accepted) where
   pub verdict-given : (x : Refusal) → verdictCall f ≡ reply.Refused x → ⊥
   verdict-given x q = reply-refused (length (bytesOf (matterOf f))) x (verdictOf (matterOf f)) (sym call-in ∙ q)
 
-  -- convertible exactly where a rule list exists
-  pub verdict-exact : ((k : ℕ) × (verdictCall f ≡ reply.Convertible k)) ↔ ((r : List (List Word)) × Converts (matterOf f) r)
+  -- convertible exactly where a rule list exists: any list at all with words of at most D symbols makes it so, and where it is so there is one of the language's own words
+  pub verdict-exact : (((r : List (List Word)) × ConvertsAny (matterOf f) r) → (k : ℕ) × (verdictCall f ≡ reply.Convertible k)) × (((k : ℕ) × (verdictCall f ≡ reply.Convertible k)) → (r : List (List Word)) × Converts (matterOf f) r)
   verdict-exact = (
+    λ x. (length (bytesOf (matterOf f)), call-in ∙ rw (any-list-verdict (matterOf f) (x .0) (x .1))),
     λ x. convertible-iff (matterOf f) refl .0 (convertible-verdict (x .0) (x .1) .0),
-    λ x. (length (bytesOf (matterOf f)), call-in ∙ rw (convertible-iff (matterOf f) refl .1 x)),
   )
 
   -- the path call for a pair and a word of the matter, with output enough
   path-call : (p : Pair) → IsPair (matterOf f .parties) p → (v : Word) → MatterWord (matterOf f) v → (w : WordValue) → Carries w v → (size : ℕ) → w .len + 1 ≤ size → pathCall f (p .first) (p .second) w size ≡ found (leastPath (enlarged (matterOf f)) p v)
   unfolding pathCall
   path-call p h v m w c size k =
-      rw e (path-answer (matterOf f) (p .first) (p .second) w size (pair-is (matterOf f .parties) (p .first) (p .second) h) (value-legal (matterOf f) v m w c) (λ z. absurd (omega (arith, c .len, m .some))) k ∙ rw (c .symbols))
+      rw e (path-answer (matterOf f) (p .first) (p .second) w size (pair-is (matterOf f .parties) (p .first) (p .second) h) (value-legal (matterOf f) v (m .over) (m .short) w c) (λ z. absurd (omega (arith, c .len, m .some))) k ∙ rw (c .symbols))
 
   path-shown : (p : Pair) → IsPair (matterOf f .parties) p → (v : Word) → HasWord (matterOf f) p v → (w : WordValue) → Carries w v → (output : List ℕ) → w .len + 1 ≤ length output → ShowsPath f p w output
   path-shown p h v m w c output k =
@@ -256,11 +254,17 @@ module _ (f : List ℕ) (e : checkOf f ≡ Accepted) where
   pub rival-exact : (x y : PairValue) → verdictCall f ≡ reply.Rival x y → FirstPair (matterOf f) (Hinders (matterOf f)) (pairIn x) × FirstPair (matterOf f) (IsRival (matterOf f) (pairIn x)) (pairIn y)
   rival-exact x y v = rival-first (matterOf f) (pairIn x) (pairIn y) (reply-rival (length (bytesOf (matterOf f))) x y (verdictOf (matterOf f)) (sym call-in ∙ v))
 
-  pub rival-shown : (x y : PairValue) → verdictCall f ≡ reply.Rival x y → (v : Word) → List·Memᴰ v (pairWords (matterOf f) (pairIn x)) → (w : WordValue) → Carries w v → (output : List ℕ) → w .len + 1 ≤ length output → ShowsPath f (pairIn x) w output × ShowsPath f (pairIn y) w output
-  rival-shown x y t v m w c output k =
+  pub rival-shown : (x y : PairValue) → verdictCall f ≡ reply.Rival x y → (v : Word) → HasWord (matterOf f) (pairIn x) v → (w : WordValue) → Carries w v → (output : List ℕ) → 32 ≤ length output → ShowsPath f (pairIn x) w output × ShowsPath f (pairIn y) w output
+  rival-shown x y t v h w c output k =
       let r = rival-exact x y t in
-      let h = word-out (matterOf f) (pairIn x) v m in
-      (path-shown (pairIn x) (r .0 .isPair) v h w c output k, path-shown (pairIn y) (r .1 .isPair) v (r .1 .here .all v h) w c output k)
+      let room : w .len + 1 ≤ length output = omega (arith, c .len, h .0 .short, accepted-limits f e .longest .1) in
+      (path-shown (pairIn x) (r .0 .isPair) v h w c output room, path-shown (pairIn y) (r .1 .isPair) v (r .1 .here .all v h) w c output room)
+
+  -- and every word of a matter has a value
+  pub word-valued : (v : Word) → MatterWord (matterOf f) v → IsValue (wordOf v) × Carries (wordOf v) v
+  word-valued v m =
+      let n = accepted-limits f e in
+      (value-is v (omega (arith, m .short, n .longest .1)) (λ i. symbol-byte v (λ s o. omega (arith, alphabet-below (matterOf f .language) (matterOf f .labels) (m .over s o), n .labels .1)) i), value-carries v)
 
   permits-back : (a b : ℕ) → verdictOf (matterOf f) ≡ convertible → isPair (matterOf f .parties) a b ≡ true → permitReply f (bytesOf (matterOf f)) a b ≡ yesOrNo (permitted (matterOf f) (pair a b))
   unfolding bytesOf listOf

@@ -14,7 +14,7 @@ use Rattle.rebac.specs.Mining.{termOf, mine}
 use Rattle.rebac.specs.Existence.{plainList}
 use Rattle.graph.specs.declared.Archive.{Archive}
 use Rattle.graph.specs.Archive.{Shows}
-use Rattle.rules.specs.ListBytes.{encodeList}
+use Rattle.rule_bytes.specs.ListBytes.{encodeList}
 use Rattle.mining.specs.Pairs.{pairAt}
 use Rattle.mining.specs.Building.{problemIn, named, termBytes}
 use Rattle.mining.specs.Taking.{due, JudgedAs}

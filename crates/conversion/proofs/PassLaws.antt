@@ -27,9 +27,9 @@ use Rattle.rebac.proofs.WhileMining.{judge-from, verdict-while-mining}
 use Rattle.graph.specs.declared.Archive.{Archive}
 use Rattle.graph.specs.Archive.{Shows}
 use Rattle.graph.specs.Legal.{isPair}
-use Rattle.paths.proofs.CallLaws.{pair-of}
-use Rattle.rules.specs.ListBytes.{encodeCount, encodeTerm, encodeList}
-use Rattle.rules.proofs.RoundTrip.{count-size, terms-more}
+use Rattle.graph.proofs.LegalLaws.{pair-of}
+use Rattle.rule_bytes.specs.ListBytes.{encodeCount, encodeTerm, encodeList}
+use Rattle.rule_bytes.proofs.RoundTrip.{count-size, terms-more}
 use Rattle.mining.specs.Pairs.{pairAt, isPairAt, pairsFrom}
 use Rattle.mining.specs.Building.{problemIn, named, encodedTerm, termBytes}
 use Rattle.mining.specs.Taking.{Marks, due, JudgedAs}

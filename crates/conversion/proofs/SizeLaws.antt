@@ -9,7 +9,7 @@ use Rattle.lists.specs.Lists.{flatMap}
 use Rattle.lists.specs.Order.{sumOf}
 use Rattle.lists.proofs.OrderLaws.{length-flat}
 use Rattle.rebac.specs.Words.{Word}
-use Rattle.rules.specs.ListBytes.{encodeCount, encodeWord, encodeTerm, encodeList}
+use Rattle.rule_bytes.specs.ListBytes.{encodeCount, encodeWord, encodeTerm, encodeList}
 
 -- the list's length: at most 992 terms of at most 993 words of at most 31 symbols
 sum-bound : {A : Type 0} (g : A → ℕ) (c : ℕ) (l : List A) → ((x : A) → List·Memᴰ x l → g x ≤ c) → sumOf g l ≤ length l * c

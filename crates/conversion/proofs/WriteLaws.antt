@@ -16,10 +16,10 @@ use Rattle.rebac.specs.Mining.{termOf, mine}
 use Rattle.rebac.specs.Existence.{plainList}
 use Rattle.graph.specs.declared.Archive.{Archive}
 use Rattle.graph.specs.Archive.{Shows}
-use Rattle.rules.specs.ListBytes.{encodeCount, encodeList}
-use Rattle.rules.specs.Writing.{put}
-use Rattle.rules.proofs.RoundTrip.{count-size}
-use Rattle.rules.proofs.PutLaws.{put-nil, put-put, put-before, put-length}
+use Rattle.rule_bytes.specs.ListBytes.{encodeCount, encodeList}
+use Rattle.rule_bytes.specs.Writing.{put}
+use Rattle.rule_bytes.proofs.RoundTrip.{count-size}
+use Rattle.rule_bytes.proofs.PutLaws.{put-nil, put-put, put-before, put-length}
 use Rattle.mining.specs.Pairs.{pairAt}
 use Rattle.mining.specs.Building.{problemIn, termBytes}
 use Rattle.mining.specs.Taking.{due, JudgedAs}

@@ -1,7 +1,7 @@
 -- The verdict and mining calls (01, "The calls"): what each answers and writes, for any bytes and buffers.
 use Prim.Native.Nat.{ℕ, _/_, _%_}
 use mathlib.Core.Bool.{Bool, true, false, _&&_}
-use mathlib.Core.List.{List, _++_, map}
+use mathlib.Core.List.{List, [], _∷_, _++_, map}
 use lib.ListN.{length, drop, replicate}
 use lib.Dec.{leb}
 use Rattle.lists.specs.Lists.{range}
@@ -9,12 +9,13 @@ use Rattle.rebac.specs.Matter.{Matter, Pair, pair}
 use Rattle.rebac.specs.Verdict.{Verdict, convertible, noWord, rivalled, isConvertible}
 use Rattle.rebac.specs.Existence.{problemOf, verdictOf, minedList, plainList, permitsPair}
 use Rattle.house_file.specs.Check.{checkOf}
-use Rattle.house_file.specs.declared.reply.Refusal.{Refusal}
-use Rattle.house_file.specs.declared.reply.Refusal.the-variants.{Scratch, Inconvertible, Output}
+use Rattle.house_layout.specs.Reply.{Said, refusal, values, numberOf}
+use Rattle.house_layout.specs.declared.reply.Refusal.{Refusal}
+use Rattle.house_layout.specs.declared.reply.Refusal.the-variants.{Scratch, Inconvertible, Output}
 use Rattle.graph.specs.Archive.{matterOf}
 use Rattle.graph.specs.Legal.{isPair}
 use Rattle.graph.specs.Refusals.{unless, afterCheck}
-use Rattle.rules.specs.ListBytes.{encodeList}
+use Rattle.rule_bytes.specs.ListBytes.{encodeList}
 use Rattle.mining.specs.Building.{named}
 use Rattle.conversion.specs.declared.verdict.VerdictReply.{VerdictReply}
 use Rattle.conversion.specs.declared.verdict.VerdictReply.the-variants as reply
@@ -33,6 +34,13 @@ abbrev pub replyOf : ℕ → Verdict Pair → VerdictReply
 replyOf size convertible = reply.Convertible size
 replyOf size (noWord p) = reply.NoWord (named p)
 replyOf size (rivalled p q) = reply.Rival (named p) (named q)
+
+-- the reply in 01's number and values: the length; the pair; the pair and its rival
+abbrev pub saidVerdict : VerdictReply → Said
+saidVerdict (reply.Refused x) = refusal (numberOf x)
+saidVerdict (reply.Convertible k) = values (k ∷ [])
+saidVerdict (reply.NoWord p) = values (p .first ∷ p .second ∷ [])
+saidVerdict (reply.Rival p q) = values (p .first ∷ p .second ∷ q .first ∷ q .second ∷ [])
 
 unfoldable pub verdictIn : Matter → VerdictReply
 verdictIn M = replyOf (length (bytesOf M)) (verdictOf M)
@@ -78,6 +86,11 @@ abbrev pub minedReply : Answer → MiningReply
 minedReply (refuses x) = Refused x
 minedReply tooShort = Refused Output
 minedReply (writes t l) = Wrote (length l)
+
+-- the reply in 01's number and values
+abbrev pub saidMining : MiningReply → Said
+saidMining (Refused x) = refusal (numberOf x)
+saidMining (Wrote k) = values (k ∷ [])
 
 -- "Scratch keeps all bytes too, except at 14 in mining, where its first 1,024 become 0."
 abbrev pub scratchOf : Answer → List ℕ → List ℕ

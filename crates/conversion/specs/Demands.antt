@@ -12,9 +12,9 @@ use Rattle.rebac.specs.Symbols.{enlarged}
 use Rattle.rebac.specs.Existence.{MatterWord}
 use Rattle.graph.specs.Archive.{matterOf}
 use Rattle.graph.specs.Legal.{isPair}
-use Rattle.paths.specs.Word.{symbolsIn}
+use Rattle.search.specs.Word.{symbolsIn}
 use Rattle.paths.specs.Calls.{pathCall, writes, replyOf, outputOf}
-use Rattle.paths.specs.declared.word.Word.{Word as WordValue}
+use Rattle.search.specs.declared.word.Word.{Word as WordValue}
 use Rattle.paths.specs.declared.call.Reply.the-variants.{Wrote as WrotePath}
 use Rattle.rules.specs.Permit.{permitReply, yesOrNo}
 use Rattle.mining.specs.declared.build.Pair.{Pair as PairValue}
@@ -49,11 +49,6 @@ pub record FirstPair (M : Matter) (A : Pair → Type 0) (p : Pair) : Type 0 wher
   pub isPair : IsPair (M .parties) p
   pub here : A p
   pub first : (x : Pair) → IsPair (M .parties) x → A x → (p ≡ x) ⊎ (pairBefore p x ≡ true)
-
--- a word value of these symbols
-pub record Carries (w : WordValue) (v : Word) : Type 0 where
-  pub len : w .len ≡ length v
-  pub symbols : symbolsIn w ≡ v
 
 -- Path: "It shows a path when it writes that one, from the given pair's first party to its second with the given word, and returns that number, the word's length plus one."
 pub record ShowsPath (f : List ℕ) (p : Pair) (w : WordValue) (output : List ℕ) : Type 0 where

@@ -10,7 +10,7 @@ use Rattle.rebac.specs.Mining.{mine}
 use Rattle.rebac.specs.Verdict.{verdict}
 use Rattle.rebac.specs.Existence.{plainList}
 use Rattle.graph.specs.declared.Archive.{Archive}
-use Rattle.rules.specs.ListBytes.{encodeList}
+use Rattle.rule_bytes.specs.ListBytes.{encodeList}
 use Rattle.mining.specs.Building.{problemIn}
 use Rattle.conversion.specs.declared.verdict.VerdictReply.{VerdictReply}
 use Rattle.conversion.specs.Calls.{oneIf, replyOf}

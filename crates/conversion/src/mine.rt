@@ -15,11 +15,11 @@ use crate::table::put_table;
 use crate::verdict::VerdictReply;
 use crate::verdict::judge;
 use graph::Archive;
-use house_file::Check;
-use house_file::Refusal;
+use house_layout::Check;
+use house_layout::Refusal;
 use masks::Row;
 
-// Refused, or the length of the list written.
+// Refused, or the length of the list written. `saidMining` gives 01's number and values of each; equal ones mean equal replies (`mining-said`).
 pub enum MiningReply {
     Refused(Refusal),
     Wrote(usize),
@@ -45,7 +45,7 @@ fn write_list(a: Archive, out: &mut [u8]) -> Row
         end = t.end;
         marks = t.marks;
     }
-    rules::put_u16(out, 0, number);
+    rule_bytes::put_u16(out, 0, number);
     marks
 }
 

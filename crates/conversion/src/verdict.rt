@@ -5,12 +5,13 @@ ghost use Rattle.graph.specs.Archive.{Shows};
 ghost use Rattle.conversion.specs.Calls.{verdictCall};
 ghost use Rattle.conversion.specs.Passes.{archiveVerdict};
 use graph::Archive;
-use house_file::Check;
-use house_file::Refusal;
+use house_layout::Check;
+use house_layout::Refusal;
 use mining::Judgment;
 use mining::Pair;
 
-// Convertible with the list's length in bytes; or not, for the pair has no word or has the rival.
+// Convertible with the list's length in bytes; or not, for the pair has no word or has the rival. `saidVerdict` gives 01's number and values of each; equal ones
+// mean equal replies (`verdict-said`).
 pub enum VerdictReply {
     Refused(Refusal),
     Convertible(usize),

@@ -1,2 +1,3 @@
 pub mod SymbolLaws
 pub mod LoadLaws
+pub mod LegalLaws

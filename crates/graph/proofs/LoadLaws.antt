@@ -6,14 +6,15 @@ use native.Mathlib.Omega.{arith}
 use borrow.Author.Tests.{lt-ltb}
 use Rattle.masks.specs.Mask.{testBit}
 use Rattle.masks.specs.Table.{maskAt}
-use Rattle.house_file.specs.Layout.{labelsOf}
+use Rattle.house_layout.specs.Layout.{labelsOf}
 use Rattle.house_file.specs.Check.{checkOf}
 use Rattle.house_file.specs.Meaning.{isEdge}
-use Rattle.house_file.specs.Decoded.{Decoded, bitOf}
-use Rattle.house_file.specs.declared.header.Header.{Header}
+use Rattle.house_file.specs.Decoded.{Decoded}
+use Rattle.house_layout.specs.Kinds.{bitOf}
+use Rattle.house_layout.specs.declared.header.Header.{Header}
 use Rattle.house_file.specs.declared.decode.House.{House}
-use Rattle.house_file.specs.declared.reply.Check.the-variants.{Accepted}
-use Rattle.house_file.proofs.RecordLaws.{label-legal, bit-label}
+use Rattle.house_layout.specs.declared.reply.Check.the-variants.{Accepted}
+use Rattle.house_layout.proofs.RecordLaws.{label-legal, bit-label}
 use Rattle.house_file.proofs.WellFormedLaws.{framing}
 use Rattle.graph.specs.Archive.{matterOf, Limits, Records}
 

@@ -13,7 +13,7 @@ use Rattle.masks.specs.Table.{maskAt}
 use Rattle.masks.specs.declared.Table.{Table}
 use Rattle.rebac.specs.Matter.{Matter}
 use Rattle.rebac.specs.Symbols.{kinds, kindHolds, apart, inLanguage, holds}
-use Rattle.house_file.specs.declared.header.Header.{Header}
+use Rattle.house_layout.specs.declared.header.Header.{Header}
 use Rattle.graph.specs.Archive.{kindIn, symbolIn, Records}
 
 -- the kinds of each language

@@ -9,11 +9,11 @@ use Rattle.masks.specs.Table.{maskIn, maskAt}
 use Rattle.masks.specs.declared.Table.{Table}
 use Rattle.rebac.specs.Matter.{Matter}
 use Rattle.rebac.specs.Symbols.{kinds, holds}
-use Rattle.house_file.specs.Layout.{partiesOf, labelsOf, languageOf, longestOf}
+use Rattle.house_layout.specs.Layout.{partiesOf, labelsOf, languageOf, longestOf}
 use Rattle.house_file.specs.Check.{checkOf}
 use Rattle.house_file.specs.Meaning.{isEdge, isPermitted}
-use Rattle.house_file.specs.declared.header.Header.{Header}
-use Rattle.house_file.specs.declared.reply.Check.the-variants.{Accepted}
+use Rattle.house_layout.specs.declared.header.Header.{Header}
+use Rattle.house_layout.specs.declared.reply.Check.the-variants.{Accepted}
 use Rattle.graph.specs.declared.Archive.{Archive}
 use Rattle.graph.specs.declared.Loading.{Loading}
 

@@ -10,9 +10,9 @@ ghost use Rattle.rebac.specs.Matter.{Matter};
 ghost use Rattle.rebac.specs.Symbols.{kinds, holds};
 ghost use Rattle.graph.specs.Legal.{isPair, legalSymbol};
 ghost use Rattle.graph.specs.Archive.{symbolIn, Records, LoadedAs};
-use house_file::Check;
-use house_file::Header;
-use house_file::Refusal;
+use house_layout::Check;
+use house_layout::Header;
+use house_layout::Refusal;
 use masks::Row;
 use masks::Table;
 

@@ -19,15 +19,17 @@ use Rattle.masks.specs.Table.{maskIn}
 use Rattle.masks.specs.declared.Row.{Row}
 use Rattle.masks.proofs.BitLaws.{test-with-same, test-with-other}
 use Rattle.masks.proofs.MaskLaws.{zero-bit}
-use Rattle.house_file.specs.Layout.{headOf, partiesOf, labelsOf, recordsOf, recordOf}
-use Rattle.house_file.specs.Check.{legalKind, judgeRecord, recordCheck, says, Walk, stopped, passed, onward, pick, walkChain}
-use Rattle.house_file.specs.Decoded.{bitOf}
+use Rattle.house_layout.specs.Layout.{headOf, partiesOf, labelsOf, recordsOf, recordOf}
+use Rattle.house_layout.specs.Fields.{legalKind, judgeRecord}
+use Rattle.house_file.specs.Check.{recordCheck, says, Walk, stopped, passed, onward, walkChain}
+use Rattle.lists.specs.Lists.{pick}
+use Rattle.house_layout.specs.Kinds.{bitOf}
 use Rattle.house_file.specs.Reading.{Marks, RowOf, chainWalk}
-use Rattle.house_file.specs.declared.reply.Check.{Check}
-use Rattle.house_file.specs.declared.reply.Check.the-variants.{Accepted, Refused}
-use Rattle.house_file.specs.declared.reply.Refusal.{Refusal}
-use Rattle.house_file.specs.declared.reply.Refusal.the-variants.{Link}
-use Rattle.house_file.proofs.RecordLaws.{judge-same, judge-passed, Passed, bit-apart}
+use Rattle.house_layout.specs.declared.reply.Check.{Check}
+use Rattle.house_layout.specs.declared.reply.Check.the-variants.{Accepted, Refused}
+use Rattle.house_layout.specs.declared.reply.Refusal.{Refusal}
+use Rattle.house_layout.specs.declared.reply.Refusal.the-variants.{Link}
+use Rattle.house_layout.proofs.RecordLaws.{judge-same, judge-passed, Passed, bit-apart}
 use Rattle.house_file.proofs.Clear.{clear, clear-le, clear-set}
 
 -- one more at the end

@@ -11,8 +11,9 @@ use Rattle.lists.specs.Lists.{anyOf}
 use Rattle.lists.specs.Order.{Distinct}
 use Rattle.lists.proofs.Cases.{both}
 use Rattle.lists.proofs.ListLaws.{member-in, member-not}
-use Rattle.house_file.specs.Layout.{partiesOf, labelsOf, headOf, recordsOf, recordOf}
-use Rattle.house_file.specs.Check.{legalTarget, legalKind, Walk, stopped, passed, andThen, walkChains}
+use Rattle.house_layout.specs.Layout.{partiesOf, labelsOf, headOf, recordsOf, recordOf}
+use Rattle.house_layout.specs.Fields.{legalTarget, legalKind}
+use Rattle.house_file.specs.Check.{Walk, stopped, passed, andThen, walkChains}
 use Rattle.house_file.specs.Meaning.{chainOf, Linked}
 use Rattle.house_file.specs.Reading.{chainWalk}
 use Rattle.house_file.proofs.ChainLaws.{unlike}

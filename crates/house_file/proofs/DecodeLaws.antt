@@ -16,15 +16,17 @@ use Rattle.masks.specs.declared.Row.{Row}
 use Rattle.masks.specs.declared.Table.{Table}
 use Rattle.masks.proofs.MaskLaws.{zero-bit}
 use Rattle.masks.proofs.TableLaws.{getD-zeros}
-use Rattle.house_file.specs.Layout.{partiesOf, labelsOf, recordsOf}
-use Rattle.house_file.specs.Check.{refuse, legalKind, says, Walk, stopped, passed, replyOf, andThen, walkChains, reachedAll, chainsCheck}
+use Rattle.house_layout.specs.Layout.{partiesOf, labelsOf, recordsOf}
+use Rattle.house_layout.specs.Reply.{refuse}
+use Rattle.house_layout.specs.Fields.{legalKind}
+use Rattle.house_file.specs.Check.{says, Walk, stopped, passed, replyOf, andThen, walkChains, reachedAll, chainsCheck}
 use Rattle.house_file.specs.Meaning.{chainOf, recorded}
-use Rattle.house_file.specs.Decoded.{bitOf}
+use Rattle.house_layout.specs.Kinds.{bitOf}
 use Rattle.house_file.specs.Reading.{Marks, RowOf, chainWalk, everyReached}
-use Rattle.house_file.specs.declared.reply.Check.{Check}
-use Rattle.house_file.specs.declared.reply.Check.the-variants.{Accepted, Refused}
-use Rattle.house_file.specs.declared.reply.Refusal.{Refusal}
-use Rattle.house_file.specs.declared.reply.Refusal.the-variants.{Unreached}
+use Rattle.house_layout.specs.declared.reply.Check.{Check}
+use Rattle.house_layout.specs.declared.reply.Check.the-variants.{Accepted, Refused}
+use Rattle.house_layout.specs.declared.reply.Refusal.{Refusal}
+use Rattle.house_layout.specs.declared.reply.Refusal.the-variants.{Unreached}
 use Rattle.house_file.proofs.ChainsLaws.{chain-passed}
 
 -- what a reply says of the walk behind it

@@ -1,4 +1,3 @@
-pub mod RecordLaws
 pub mod Clear
 pub mod ChainLaws
 pub mod WalkLaws

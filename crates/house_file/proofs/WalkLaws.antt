@@ -9,12 +9,13 @@ use borrow.Author.Tests.{eq-eqb, ne-eqb, le-ltb, eqb-true, eqb-false, ltb-false,
 use Rattle.lists.specs.Lists.{anyOf, member}
 use Rattle.lists.specs.Order.{Distinct}
 use Rattle.lists.proofs.Cases.{by-test, by-mem, both, clash}
-use Rattle.house_file.specs.Layout.{partiesOf, labelsOf, recordsOf, recordOf}
-use Rattle.house_file.specs.Check.{legalTarget, legalKind, recordCheck, says, Walk, passed, onward, walkChain}
+use Rattle.house_layout.specs.Layout.{partiesOf, labelsOf, recordsOf, recordOf}
+use Rattle.house_layout.specs.Fields.{legalTarget, legalKind}
+use Rattle.house_file.specs.Check.{recordCheck, says, Walk, passed, onward, walkChain}
 use Rattle.house_file.specs.Meaning.{chainFrom, Linked}
-use Rattle.house_file.specs.declared.reply.Check.{Check}
-use Rattle.house_file.specs.declared.reply.Check.the-variants.{Accepted, Refused}
-use Rattle.house_file.proofs.RecordLaws.{judge-accepts, judge-passed}
+use Rattle.house_layout.specs.declared.reply.Check.{Check}
+use Rattle.house_layout.specs.declared.reply.Check.the-variants.{Accepted, Refused}
+use Rattle.house_layout.proofs.RecordLaws.{judge-accepts, judge-passed}
 use Rattle.house_file.proofs.ChainLaws.{any-more, any-yes, any-no, unlike}
 
 or-left : (b c : Bool) → (b || c) ≡ false → b ≡ false

@@ -11,14 +11,16 @@ use borrow.Author.Tests.{eq-eqb, ne-eqb, eqb-true, le-leb, leb-true, lt-ltb, le-
 use Rattle.lists.specs.Lists.{allOf, member, upFrom}
 use Rattle.lists.proofs.Cases.{and-left, and-right, and-both}
 use Rattle.lists.proofs.ListLaws.{all-in, all-of, up-in, up-out, member-in, member-out}
-use Rattle.house_file.specs.Layout.{byteAt, partiesOf, labelsOf, languageOf, longestOf, recordsOf, sizeOf, recordOf}
-use Rattle.house_file.specs.Check.{refuse, within, fieldsInRange, Walk, stopped, passed, walkChains, reachedAll, chainsCheck, checkOf}
+use Rattle.house_layout.specs.Layout.{byteAt, partiesOf, labelsOf, languageOf, longestOf, recordsOf, sizeOf, recordOf}
+use Rattle.house_layout.specs.Reply.{refuse}
+use Rattle.house_layout.specs.Fields.{within, fieldsInRange}
+use Rattle.house_file.specs.Check.{Walk, stopped, passed, walkChains, reachedAll, chainsCheck, checkOf}
 use Rattle.house_file.specs.Meaning.{FieldsRight, WellFormed}
-use Rattle.house_file.specs.declared.reply.Check.{Check}
-use Rattle.house_file.specs.declared.reply.Check.the-variants.{Accepted, Refused}
-use Rattle.house_file.specs.declared.reply.Refusal.{Refusal}
-use Rattle.house_file.specs.declared.reply.Refusal.the-variants.{Length, Field, Unreached}
-use Rattle.house_file.proofs.RecordLaws.{target-below, target-other, target-legal, kind-cases, kind-legal}
+use Rattle.house_layout.specs.declared.reply.Check.{Check}
+use Rattle.house_layout.specs.declared.reply.Check.the-variants.{Accepted, Refused}
+use Rattle.house_layout.specs.declared.reply.Refusal.{Refusal}
+use Rattle.house_layout.specs.declared.reply.Refusal.the-variants.{Length, Field, Unreached}
+use Rattle.house_layout.proofs.RecordLaws.{target-below, target-other, target-legal, kind-cases, kind-legal}
 use Rattle.house_file.proofs.ChainsLaws.{chainsFrom, chains-in, chains-out, walks-passed, passed-walks}
 
 -- a test that was passed over

@@ -1,69 +1,17 @@
 -- The check of a house file: 01's order of checks and its refusals 1 to 8.
 use Prim.Native.Nat.{ℕ, zero, suc}
-use mathlib.Core.Bool.{Bool, true, false, not, _&&_, _||_}
+use mathlib.Core.Bool.{Bool, true, false, not, _&&_}
 use mathlib.Core.List.{List, [], _∷_, _++_}
 use lib.ListN.{length}
-use lib.Dec.{eqb, ltb, leb}
-use Rattle.lists.specs.Lists.{allOf, anyOf, member, upFrom}
-use Rattle.house_file.specs.Layout.{byteAt, partiesOf, labelsOf, languageOf, longestOf, recordsOf, sizeOf, headOf, recordOf, permitKind}
-use Rattle.house_file.specs.declared.reply.Refusal.{Refusal}
-use Rattle.house_file.specs.declared.reply.Refusal.the-variants.{Length, Field, Link, Again, Unreached, Target, Kind, Repeat, RuleList, PartyPair, GivenWord, Scratch, Inconvertible, Output}
-use Rattle.house_file.specs.declared.reply.Check.{Check}
-use Rattle.house_file.specs.declared.reply.Check.the-variants.{Accepted, Refused}
-use Rattle.house_file.specs.declared.record.Record.{Record}
-
--- 01's number of a refusal ("Who can make a call refuse")
-abbrev pub numberOf : Refusal → ℕ
-numberOf Length = 1
-numberOf Field = 2
-numberOf Link = 3
-numberOf Again = 4
-numberOf Unreached = 5
-numberOf Target = 6
-numberOf Kind = 7
-numberOf Repeat = 8
-numberOf RuleList = 9
-numberOf PartyPair = 10
-numberOf GivenWord = 11
-numberOf Scratch = 12
-numberOf Inconvertible = 13
-numberOf Output = 14
-
--- refused where the test holds, otherwise what follows
-abbrev pub refuse : Bool → Refusal → Check → Check
-refuse true x k = Refused x
-refuse false x k = k
-
-abbrev pub within : ℕ → ℕ → ℕ → Bool
-within low high x = leb low x && leb x high
-
--- every header field is in its range
-unfoldable pub fieldsInRange : List ℕ → Bool
-fieldsInRange f =
-    eqb (byteAt f 0) 1
-    && (within 1 32 (partiesOf f)
-    && (within 1 8 (labelsOf f)
-    && (within 0 3 (languageOf f)
-    && (within 1 31 (longestOf f)
-    && (eqb (byteAt f 5) 0
-    && leb (recordsOf f) 8928)))))
-
--- a target is a party other than the chain's own
-abbrev pub legalTarget : ℕ → ℕ → ℕ → Bool
-legalTarget n u t = ltb t n && not (eqb t u)
-
--- a kind byte is a label below L, or that of a permit
-abbrev pub legalKind : ℕ → ℕ → Bool
-legalKind l k = ltb k l || eqb k permitKind
-
--- one record of party u's chain; `again`: it was reached before; `repeat`: an earlier record of the chain has its target and kind
-unfoldable pub judgeRecord : ℕ → ℕ → ℕ → Record → Bool → Bool → Check
-judgeRecord n l u r again repeat =
-    refuse again Again
-    (refuse (not (legalTarget n u (r .target))) Target
-    (refuse (not (legalKind l (r .kind))) Kind
-    (refuse repeat Repeat
-    Accepted)))
+use lib.Dec.{eqb, ltb}
+use Rattle.lists.specs.Lists.{pick, allOf, anyOf, member, upFrom}
+use Rattle.house_layout.specs.Layout.{partiesOf, labelsOf, recordsOf, sizeOf, headOf, recordOf}
+use Rattle.house_layout.specs.Reply.{refuse}
+use Rattle.house_layout.specs.Fields.{fieldsInRange, judgeRecord}
+use Rattle.house_layout.specs.declared.reply.Refusal.{Refusal}
+use Rattle.house_layout.specs.declared.reply.Refusal.the-variants.{Length, Field, Link, Again, Unreached}
+use Rattle.house_layout.specs.declared.reply.Check.{Check}
+use Rattle.house_layout.specs.declared.reply.Check.the-variants.{Accepted, Refused}
 
 -- record s has this target and kind
 unfoldable pub says : List ℕ → ℕ → ℕ → ℕ → Bool
@@ -88,10 +36,6 @@ replyOf (passed c) = Accepted
 abbrev pub onward : Check → Walk → Walk
 onward Accepted w = w
 onward (Refused x) w = stopped x
-
-abbrev pub pick {ℓ} : {A : Type ℓ} → Bool → A → A → A
-pick true a b = a
-pick false a b = b
 
 -- Along party u's chain from record r on.
 -- A chain passes each record once, so R + 1 turns are enough, and a turn more could only meet a record again.

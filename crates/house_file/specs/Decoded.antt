@@ -3,19 +3,16 @@ use Prim.Native.Nat.{ℕ}
 use mathlib.Core.Path.{_≡_}
 use mathlib.Core.Bool.{true}
 use mathlib.Core.List.{List}
-use lib.Dec.{eqb}
 use Rattle.masks.specs.Mask.{testBit}
 use Rattle.masks.specs.Table.{maskIn, maskAt}
-use Rattle.house_file.specs.Layout.{headerOf, labelsOf, permitKind}
-use Rattle.house_file.specs.Check.{legalKind, pick, checkOf}
+use Rattle.house_layout.specs.Layout.{headerOf, labelsOf}
+use Rattle.house_layout.specs.Fields.{legalKind}
+use Rattle.house_layout.specs.Kinds.{bitOf}
+use Rattle.house_file.specs.Check.{checkOf}
 use Rattle.house_file.specs.Meaning.{recorded, isPermitted}
 use Rattle.house_file.specs.declared.decode.House.{House}
 use Rattle.house_file.specs.declared.decode.Reading.{Reading}
-use Rattle.house_file.specs.declared.reply.Check.the-variants.{Accepted}
-
--- the place of a kind byte in a mask of kinds: a label's is its number, a permit's is 31
-abbrev pub bitOf : ℕ → ℕ
-bitOf k = pick (eqb k permitKind) 31 k
+use Rattle.house_layout.specs.declared.reply.Check.the-variants.{Accepted}
 
 pub record Decoded (f : List ℕ) (h : House) : Type 0 where
   pub header : h .header ≡ headerOf f

@@ -8,14 +8,15 @@ use lib.Dec.{eqb}
 use Rattle.lists.specs.Lists.{allOf, anyOf, member, upFrom}
 use Rattle.masks.specs.Mask.{testBit}
 use Rattle.masks.specs.Table.{maskIn, maskAt}
-use Rattle.house_file.specs.Layout.{headerOf, headOf, labelsOf, recordsOf, sizeOf}
-use Rattle.house_file.specs.Check.{legalKind, says, Walk, passed, replyOf, walkChain, chainsCheck}
-use Rattle.house_file.specs.Decoded.{bitOf}
-use Rattle.house_file.specs.declared.header.Header.{Header}
+use Rattle.house_layout.specs.Layout.{headerOf, headOf, labelsOf, recordsOf, sizeOf}
+use Rattle.house_layout.specs.Fields.{legalKind}
+use Rattle.house_file.specs.Check.{says, Walk, passed, replyOf, walkChain, chainsCheck}
+use Rattle.house_layout.specs.Kinds.{bitOf}
+use Rattle.house_layout.specs.declared.header.Header.{Header}
 use Rattle.house_file.specs.Meaning.{recorded}
 use Rattle.house_file.specs.declared.chain.Chain.{Chain}
 use Rattle.house_file.specs.declared.decode.Chains.{Chains}
-use Rattle.house_file.specs.declared.reply.Check.the-variants.{Accepted}
+use Rattle.house_layout.specs.declared.reply.Check.the-variants.{Accepted}
 use Rattle.masks.specs.declared.Row.{Row}
 
 -- a file whose header and length passed, and its numbers

@@ -8,11 +8,11 @@ ghost use Rattle.house_file.specs.Check.{checkOf};
 ghost use Rattle.house_file.specs.Decoded.{ReadAs};
 ghost use Rattle.house_file.specs.Reading.{Framed, Marks, everyReached, ChainsRead};
 use crate::chain::read_chain;
-use crate::header::Header;
-use crate::header::fields_in_range;
-use crate::header::read_header;
-use crate::reply::Check;
-use crate::reply::Refusal;
+use house_layout::Header;
+use house_layout::fields_in_range;
+use house_layout::read_header;
+use house_layout::Check;
+use house_layout::Refusal;
 use masks::Row;
 use masks::Table;
 

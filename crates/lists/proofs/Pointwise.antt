@@ -61,6 +61,12 @@ module _ {A : Type 0} where
       (λ q. rw (q, filterBy) (λ m. d .0 (filter-out p l m .0), distinct-filter p l (d .1)))
       (λ q. rw (q, filterBy) (distinct-filter p l (d .1)))
 
+-- a filter leaves no more than there was
+pub filter-length : {A : Type 0} (p : A → Bool) (l : List A) → length (filterBy p l) ≤ length l
+unfolding filterBy
+filter-length p [] = omega arith
+filter-length p (x ∷ l) = by-test (p x) (λ e. rw (e, filterBy) (omega (arith, filter-length p l))) (λ e. rw (e, filterBy) (omega (arith, filter-length p l)))
+
 -- a stricter test picks no more, and fewer where it refuses a member that the other picks
 pub filter-fewer : {A : Type 0} (p q : A → Bool) (l : List A) → ((x : A) → List·Memᴰ x l → p x ≡ true → q x ≡ true) → length (filterBy p l) ≤ length (filterBy q l)
 unfolding filterBy

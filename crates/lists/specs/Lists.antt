@@ -5,6 +5,11 @@ use mathlib.Core.Option.{Option, none, some}
 use Prim.Native.Nat.{ℕ, zero, suc}
 use lib.Dec.{eqb}
 
+-- one of two, by a test
+abbrev pub pick {ℓ} : {A : Type ℓ} → Bool → A → A → A
+pick true a b = a
+pick false a b = b
+
 module _ {A : Type 0} where
   -- every element passes
   unfoldable pub allOf : (A → Bool) → List A → Bool

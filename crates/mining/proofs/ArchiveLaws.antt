@@ -24,12 +24,12 @@ use Rattle.rebac.proofs.MiningLaws.{Owned, term-length}
 use Rattle.rebac.proofs.Conversion.{score-one, pair-words-out, meets-one}
 use Rattle.graph.specs.declared.Archive.{Archive}
 use Rattle.graph.specs.Archive.{Shows}
-use Rattle.paths.specs.Ask.{tableGraph}
-use Rattle.paths.specs.Next.{NextAs}
-use Rattle.paths.specs.declared.next.Next.{Next}
+use Rattle.search.specs.Ask.{tableGraph}
+use Rattle.words.specs.Next.{NextAs}
+use Rattle.words.specs.declared.next.Next.{Next}
 use Rattle.paths.proofs.CallLaws.{shown-graph}
-use Rattle.rules.specs.Reading.{FitWord, FitTerm}
-use Rattle.rules.proofs.PlaceLaws.{word-legal-fits}
+use Rattle.rule_bytes.specs.Reading.{FitWord, FitTerm}
+use Rattle.rule_bytes.proofs.PlaceLaws.{word-legal-fits}
 use Rattle.rules.proofs.MatterLists.{legal-words}
 use Rattle.mining.specs.Building.{problemIn}
 

@@ -26,14 +26,14 @@ use Rattle.rebac.proofs.MiningLaws.{Owned, add-all, owned-more, begin-owned}
 use Rattle.rebac.proofs.WhileMining.{judge-from}
 use Rattle.graph.specs.declared.Archive.{Archive}
 use Rattle.graph.specs.Archive.{Shows}
-use Rattle.paths.specs.Ask.{tableGraph}
-use Rattle.rules.specs.ListBytes.{encodeCount, encodeWord, encodeTerm}
-use Rattle.rules.specs.Writing.{put}
-use Rattle.rules.specs.Reading.{TermAt}
-use Rattle.rules.proofs.RoundTrip.{count-size, words-more, word-size}
-use Rattle.rules.proofs.PutLaws.{put-length}
-use Rattle.rules.proofs.PlaceLaws.{term-ahead}
-use Rattle.house_file.specs.Layout.{u16At}
+use Rattle.search.specs.Ask.{tableGraph}
+use Rattle.rule_bytes.specs.ListBytes.{encodeCount, encodeWord, encodeTerm}
+use Rattle.rule_bytes.specs.Writing.{put}
+use Rattle.rule_bytes.specs.Reading.{TermAt}
+use Rattle.rule_bytes.proofs.RoundTrip.{count-size, words-more, word-size}
+use Rattle.rule_bytes.proofs.PutLaws.{put-length}
+use Rattle.rule_bytes.proofs.PlaceLaws.{term-ahead}
+use Rattle.house_layout.specs.Layout.{u16At}
 use Rattle.mining.specs.Pairs.{pairAt, isPairAt, pairsFrom}
 use Rattle.mining.specs.Building.{problemIn, named, encodedTerm, firstBytes, termBytes, BuiltAs}
 use Rattle.mining.specs.declared.build.Built.the-variants.{Rival, Term as TermTo}

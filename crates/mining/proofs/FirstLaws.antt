@@ -16,10 +16,10 @@ use Rattle.rebac.specs.NextWord.{pairWords, nextWord}
 use Rattle.rebac.proofs.NextWordLaws.{first-word}
 use Rattle.graph.specs.declared.Archive.{Archive}
 use Rattle.graph.specs.Archive.{Shows}
-use Rattle.rules.specs.ListBytes.{encodeCount, encodeTerm}
-use Rattle.rules.specs.Writing.{put}
-use Rattle.rules.proofs.RoundTrip.{term-size, word-size}
-use Rattle.rules.proofs.PutLaws.{put-over}
+use Rattle.rule_bytes.specs.ListBytes.{encodeCount, encodeTerm}
+use Rattle.rule_bytes.specs.Writing.{put}
+use Rattle.rule_bytes.proofs.RoundTrip.{term-size, word-size}
+use Rattle.rule_bytes.proofs.PutLaws.{put-over}
 use Rattle.mining.specs.Building.{problemIn, firstBytes, termBytes, BuiltAs}
 use Rattle.mining.specs.declared.build.Built.{Built}
 use Rattle.mining.proofs.ArchiveLaws.{problem-shown}

@@ -7,7 +7,7 @@ use Prim.Native.Nat.{ℕ, suc, _+_, _*_, _-_, _/_, _%_, _≤_, _<_}
 use native.Mathlib.Omega.{arith}
 use native.Mathlib.Decide.{decLt}
 use lib.Dec.{ltb}
-use borrow.Author.Tests.{lt-ltb, le-ltb, ne-eqb, ltb-true}
+use borrow.Author.Tests.{lt-ltb, le-ltb, ltb-true}
 use Rattle.lists.specs.Lists.{filterBy, upFrom}
 use Rattle.lists.specs.Order.{Ascending}
 use Rattle.lists.proofs.ListLaws.{filter-in, filter-out, map-in, map-out, up-in, up-out}
@@ -17,13 +17,8 @@ use Rattle.rebac.specs.Matter.{Pair, pair, IsPair, pairBefore, pairsOf}
 use Rattle.rebac.proofs.PairsLaws.{pairs-in, pairs-out, pairs-ascending, pair-one-way}
 use Rattle.rebac.proofs.LexOrder.{first-lower, first-same}
 use Rattle.graph.specs.Legal.{isPair}
-use Rattle.paths.proofs.CallLaws.{pair-of}
+use Rattle.graph.proofs.LegalLaws.{pair-of, pair-is}
 use Rattle.mining.specs.Pairs.{pairAt, isPairAt, pairsFrom}
-
--- a pair passes the test of one
-pub pair-is : (n a b : ℕ) → IsPair n (pair a b) → isPair n a b ≡ true
-unfolding isPair
-pair-is n a b h = rw (lt-ltb a n (h .first), lt-ltb b n (h .second), ne-eqb a b (h .different)) refl
 
 -- a greater number is a later pair
 later : (i j : ℕ) → ltb i j ≡ true → pairBefore (pairAt i) (pairAt j) ≡ true

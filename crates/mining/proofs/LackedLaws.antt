@@ -20,12 +20,12 @@ use Rattle.rebac.proofs.Conversion.{score-one}
 use Rattle.rebac.proofs.NextWordLaws.{next-finds, first-after-start, first-after-none, first-after-here, first-after-next, words-left-fall}
 use Rattle.graph.specs.declared.Archive.{Archive}
 use Rattle.graph.specs.Archive.{Shows}
-use Rattle.paths.specs.declared.next.Next.{Next}
-use Rattle.paths.specs.Word.{symbolsIn, Short}
-use Rattle.paths.specs.Ask.{tableGraph}
-use Rattle.paths.specs.Next.{NextAs}
-use Rattle.paths.proofs.SearchLaws.{symbols-length}
-use Rattle.paths.proofs.NextLaws.{next-not, next-some, next-as}
+use Rattle.words.specs.declared.next.Next.{Next}
+use Rattle.search.specs.Word.{symbolsIn, Short}
+use Rattle.search.specs.Ask.{tableGraph}
+use Rattle.words.specs.Next.{NextAs}
+use Rattle.search.proofs.SearchLaws.{symbols-length}
+use Rattle.words.proofs.NextLaws.{next-not, next-some, next-as}
 use Rattle.paths.proofs.CallLaws.{shown-graph}
 
 -- how many words of the pair stand after a word, told from the archive: the measure of going through them

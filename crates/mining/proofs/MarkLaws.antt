@@ -25,7 +25,7 @@ use Rattle.graph.specs.declared.Archive.{Archive}
 use Rattle.graph.specs.Archive.{Shows}
 use Rattle.graph.specs.Legal.{isPair}
 use Rattle.rules.specs.Permit.{meetsTerm}
-use Rattle.paths.proofs.CallLaws.{pair-of}
+use Rattle.graph.proofs.LegalLaws.{pair-of}
 use Rattle.mining.specs.Building.{problemIn}
 use Rattle.mining.specs.Taking.{Marks}
 use Rattle.mining.proofs.ArchiveLaws.{owned-met}

@@ -17,9 +17,9 @@ use Rattle.rebac.specs.Existence.{plainTerm}
 use Rattle.rebac.proofs.MiningLaws.{term-owned}
 use Rattle.graph.specs.declared.Archive.{Archive}
 use Rattle.graph.specs.Archive.{Shows}
-use Rattle.paths.proofs.CallLaws.{pair-of}
-use Rattle.rules.specs.Reading.{TermAt}
-use Rattle.rules.specs.Writing.{put}
+use Rattle.graph.proofs.LegalLaws.{pair-of}
+use Rattle.rule_bytes.specs.Reading.{TermAt}
+use Rattle.rule_bytes.specs.Writing.{put}
 use Rattle.mining.specs.Pairs.{pairAt, isPairAt}
 use Rattle.mining.specs.Building.{problemIn, named, encodedTerm, termBytes, BuiltAs}
 use Rattle.mining.specs.Taking.{Marks, due, dueBy, JudgedAs}

@@ -5,10 +5,10 @@ use Prim.Native.Nat.{ℕ, _+_, _≤_}
 use native.Mathlib.Omega.{arith}
 use lib.ListN.{length, length-append}
 use Rattle.lists.specs.Lists.{flatMap}
-use Rattle.rules.specs.ListBytes.{encodeCount, encodeWord, encodeTerm}
-use Rattle.rules.specs.Writing.{put}
-use Rattle.rules.proofs.RoundTrip.{count-size, words-more}
-use Rattle.rules.proofs.PutLaws.{put-put, put-recount}
+use Rattle.rule_bytes.specs.ListBytes.{encodeCount, encodeWord, encodeTerm}
+use Rattle.rule_bytes.specs.Writing.{put}
+use Rattle.rule_bytes.proofs.RoundTrip.{count-size, words-more}
+use Rattle.rule_bytes.proofs.PutLaws.{put-put, put-recount}
 
 pub term-more : (b : List ℕ) (at : ℕ) (t : List (List ℕ)) (w : List ℕ) → at + length (encodeTerm t) + length (encodeWord w) ≤ length b
     → put (put (put b at (encodeTerm t)) (at + length (encodeTerm t)) (encodeWord w)) at (encodeCount (length t + 1)) ≡ put b at (encodeTerm (t ++ (w ∷ [])))

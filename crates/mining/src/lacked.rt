@@ -6,11 +6,11 @@ ghost use Rattle.rebac.specs.NextWord.{pairWords, nextWord};
 ghost use Rattle.rebac.specs.Mining.{lacks};
 ghost use Rattle.lists.specs.Lists.{firstBy};
 ghost use Rattle.graph.specs.Archive.{Shows};
-ghost use Rattle.paths.specs.Word.{Short};
-ghost use Rattle.paths.specs.Next.{NextAs};
+ghost use Rattle.search.specs.Word.{Short};
+ghost use Rattle.words.specs.Next.{NextAs};
 use graph::Archive;
-use paths::Next;
-use paths::Word;
+use words::Next;
+use search::Word;
 
 // The pair's first word.
 pub fn first_word(a: Archive, first: usize, second: usize) -> Next
@@ -21,7 +21,7 @@ pub fn first_word(a: Archive, first: usize, second: usize) -> Next
         len: 0,
         symbols: [0u8; 31],
     };
-    paths::next_word(a.graph, a.parties, first, second, a.longest, empty)
+    words::next_word(a.graph, a.parties, first, second, a.longest, empty)
 }
 
 // The words of the pair (first, second) in order, up to the first that (u, v) lacks.
@@ -32,10 +32,10 @@ pub fn first_lacked(a: Archive, first: usize, second: usize, u: usize, v: usize)
     let mut c = first_word(a, first, second);
     while c.found {
         let w = c.word;
-        if !paths::has_word(a.graph, a.parties, u, v, w) {
+        if !search::has_word(a.graph, a.parties, u, v, w) {
             return c;
         }
-        c = paths::next_word(a.graph, a.parties, first, second, a.longest, w);
+        c = words::next_word(a.graph, a.parties, first, second, a.longest, w);
     }
     c
 }

@@ -12,7 +12,7 @@ ghost use Rattle.rebac.specs.Rules.{RuleList};
 ghost use Rattle.rebac.specs.Verdict.{judge};
 ghost use Rattle.graph.specs.Archive.{Shows};
 ghost use Rattle.graph.specs.Legal.{isPair};
-ghost use Rattle.rules.specs.Reading.{TermAt, SomeTerm};
+ghost use Rattle.rule_bytes.specs.Reading.{TermAt, SomeTerm};
 ghost use Rattle.rules.specs.Permit.{meetsTerm};
 ghost use Rattle.mining.specs.Pairs.{pairAt};
 ghost use Rattle.mining.specs.Building.{problemIn};

@@ -1,16 +1,16 @@
 -- What the calls answer, by the outcome of their tests; a path's parties as bytes, and their number as the ones of a mask. Assumes nothing.
 use mathlib.Core.Path.{_≡_, refl, sym, ap, _∙_}
-use mathlib.Core.Bool.{Bool, true, false, not, _&&_}
+use mathlib.Core.Bool.{Bool, true, false, _&&_}
 use mathlib.Core.List.{List, [], _∷_, _++_, List·Memᴰ, List·Memᴰ·head, List·Memᴰ·tail}
 use mathlib.Core.Option.{none, some}
 use Prim.Native.Nat.{ℕ, zero, suc, _+_, _/_, _≤_, _<_}
 use native.Mathlib.Omega.{arith}
 use native.Mathlib.Numerals.{add-one}
 use lib.Count.{ones}
-use lib.Dec.{eqb, ltb, leb}
+use lib.Dec.{ltb, leb}
 use lib.ListN.{length, take, drop, set, getD}
 use lib.Seq.{drop-cons, ext-getD, length-take-le, getD-take, take-length}
-use borrow.Author.Tests.{ltb-true, leb-true, eqb-false, eq-eqb, ne-eqb, le-leb, lt-leb, not-true}
+use borrow.Author.Tests.{ltb-true, leb-true, eq-eqb, ne-eqb, le-leb, lt-leb}
 use Rattle.lists.specs.Lists.{allOf}
 use Rattle.lists.specs.Order.{Distinct}
 use Rattle.lists.proofs.Cases.{and-left, and-right, and-false}
@@ -27,31 +27,21 @@ use Rattle.rebac.specs.NextWord.{nextWord}
 use Rattle.rebac.proofs.Reach.{least-is-walk}
 use Rattle.rebac.proofs.SearchLaws.{least-size}
 use Rattle.rebac.proofs.SymbolsLaws.{holds-listed, alphabet-ascending, alphabet-below}
-use Rattle.house_file.specs.declared.reply.Refusal.the-variants.{PartyPair, GivenWord, Output}
+use Rattle.house_layout.specs.declared.reply.Refusal.the-variants.{PartyPair, GivenWord, Output}
 use Rattle.graph.specs.Archive.{Limits, Shows}
 use Rattle.graph.specs.Legal.{isPair, legalSymbol}
 use Rattle.graph.specs.declared.Archive.{Archive}
-use Rattle.paths.specs.Word.{symbolsIn, Short}
-use Rattle.paths.specs.Search.{visitAll, formOf, maskGraph, FoundAs}
+use Rattle.graph.proofs.LegalLaws.{pair-of}
+use Rattle.search.specs.Word.{symbolsIn, Short}
+use Rattle.search.specs.Search.{visitAll, formOf, maskGraph, FoundAs}
 use Rattle.paths.specs.Calls.{refuses, found, legalWord, pathIn, nextIn}
-use Rattle.paths.specs.declared.word.Word.{Word}
-use Rattle.paths.specs.declared.search.Found.{Found}
-use Rattle.paths.proofs.SearchLaws.{symbols-length, found-not, found-some}
-use Rattle.paths.specs.Ask.{tableGraph, searchPair, Query}
-use Rattle.paths.specs.Next.{Alphabet, NextAs}
-use Rattle.paths.specs.declared.next.Next.{Next}
-use Rattle.paths.proofs.AskLaws.{search-path, least-fixed, all-fixed}
-
--- what passes the test of a pair is one
-pub pair-of : (n a b : ℕ) → isPair n a b ≡ true → IsPair n (pair a b)
-unfolding isPair
-pair-of n a b e =
-    let r = and-right (ltb a n) (ltb b n && not (eqb a b)) e in
-    record {
-      first = ltb-true a n (and-left (ltb a n) _ e);
-      second = ltb-true b n (and-left (ltb b n) _ r);
-      different = eqb-false a b (not-true (eqb a b) (and-right (ltb b n) _ r));
-    }
+use Rattle.search.specs.declared.word.Word.{Word}
+use Rattle.search.specs.declared.search.Found.{Found}
+use Rattle.search.proofs.SearchLaws.{symbols-length, found-not, found-some}
+use Rattle.search.specs.Ask.{tableGraph, searchPair, Query}
+use Rattle.words.specs.Next.{Alphabet, NextAs}
+use Rattle.words.specs.declared.next.Next.{Next}
+use Rattle.search.proofs.AskLaws.{search-path, least-fixed, all-fixed}
 
 -- an archive's graph is the matter's enlarged graph
 module _ (M : Matter) (a : Archive) (h : Shows M a) where

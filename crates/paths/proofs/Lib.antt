@@ -1,5 +1,3 @@
-pub mod SearchLaws
-pub mod WalkLaws
-pub mod AskLaws
-pub mod NextLaws
 pub mod CallLaws
+pub mod ReplyLaws
+pub mod HandOutLaws

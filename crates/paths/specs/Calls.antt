@@ -1,7 +1,7 @@
 -- The path and next-word calls (01, "The calls"): what each answers and writes, for any bytes, parties, word and output.
 use Prim.Native.Nat.{ℕ, _+_}
 use mathlib.Core.Bool.{Bool, not, _&&_}
-use mathlib.Core.List.{List, _++_}
+use mathlib.Core.List.{List, [], _∷_, _++_}
 use mathlib.Core.Option.{Option, none, some}
 use lib.ListN.{length, drop}
 use lib.Dec.{eqb, leb}
@@ -11,13 +11,14 @@ use Rattle.rebac.specs.Paths.{leastPath}
 use Rattle.rebac.specs.Symbols.{enlarged}
 use Rattle.rebac.specs.NextWord.{nextWord}
 use Rattle.house_file.specs.Check.{checkOf}
-use Rattle.house_file.specs.declared.reply.Refusal.{Refusal}
-use Rattle.house_file.specs.declared.reply.Refusal.the-variants.{PartyPair, GivenWord, Output}
+use Rattle.house_layout.specs.Reply.{Said, refusal, values, numberOf}
+use Rattle.house_layout.specs.declared.reply.Refusal.{Refusal}
+use Rattle.house_layout.specs.declared.reply.Refusal.the-variants.{PartyPair, GivenWord, Output}
 use Rattle.graph.specs.Archive.{matterOf}
 use Rattle.graph.specs.Legal.{isPair, legalSymbol}
 use Rattle.graph.specs.Refusals.{unless, afterCheck}
-use Rattle.paths.specs.Word.{symbolsIn}
-use Rattle.paths.specs.declared.word.Word.{Word}
+use Rattle.search.specs.Word.{symbolsIn}
+use Rattle.search.specs.declared.word.Word.{Word}
 use Rattle.paths.specs.declared.call.Reply.{Reply}
 use Rattle.paths.specs.declared.call.Reply.the-variants.{Refused, Nothing, Wrote}
 
@@ -32,6 +33,12 @@ abbrev pub replyOf : Answer → Reply
 replyOf (refuses x) = Refused x
 replyOf nothing = Nothing
 replyOf (writes l) = Wrote (length l)
+
+-- the reply in 01's number and values
+abbrev pub saidReply : Reply → Said
+saidReply (Refused x) = refusal (numberOf x)
+saidReply Nothing = values []
+saidReply (Wrote k) = values (k ∷ [])
 
 -- the output then: what is written stands at its start, every other byte is kept
 abbrev pub outputOf : Answer → List ℕ → List ℕ

@@ -1,6 +1,2 @@
-pub mod Word
-pub mod Search
-pub mod Walk
-pub mod Ask
-pub mod Next
 pub mod Calls
+pub mod HandOut

@@ -8,16 +8,17 @@ ghost use Rattle.lists.specs.Lists.{allOf};
 ghost use Rattle.rebac.specs.Matter.{Matter};
 ghost use Rattle.graph.specs.Archive.{Shows};
 ghost use Rattle.graph.specs.Legal.{legalSymbol};
-ghost use Rattle.paths.specs.Word.{symbolsIn};
+ghost use Rattle.search.specs.Word.{symbolsIn};
 ghost use Rattle.paths.specs.Calls.{replyOf, outputOf, pathIn, nextIn, pathCall, nextCall};
-use crate::ask::search_pair;
-use crate::next::next_word;
-use crate::word::Word;
+use search::search_pair;
+use words::next_word;
+use search::Word;
 use graph::Archive;
-use house_file::Check;
-use house_file::Refusal;
+use house_layout::Check;
+use house_layout::Refusal;
 
-// What both calls reply: refused, nothing to write, or the number of bytes written.
+// What both calls reply: refused, nothing to write, or the number of bytes written. `saidReply` gives 01's number and values of each; equal ones mean equal
+// replies (`reply-said`).
 pub enum Reply {
     Refused(Refusal),
     Nothing,

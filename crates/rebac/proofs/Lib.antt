@@ -1,4 +1,3 @@
-pub mod CasesHold
 pub mod LexOrder
 pub mod Reach
 pub mod Triples

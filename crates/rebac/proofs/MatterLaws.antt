@@ -1,20 +1,22 @@
 -- Laws of a matter for its callers: 000's paths in the enlarged graph, the bound on words, and that answers depend on the graph only edge by edge.
-use mathlib.Core.Path.{_≡_, sym, fun-ext}
+use mathlib.Core.Path.{_≡_, refl, sym, fun-ext}
 use mathlib.Core.Logic.{_↔_}
 use mathlib.Core.Bool.{Bool, true, false}
-use mathlib.Core.List.{List, List·Memᴰ}
-use Prim.Native.Nat.{ℕ, _≤_}
+use mathlib.Core.List.{List, [], _∷_, List·Memᴰ, List·Memᴰ·not-nil, List·Memᴰ·eq-of-singleton}
+use Prim.Native.Nat.{ℕ, _+_, _*_, _≤_, _<_}
 use native.Mathlib.Omega.{arith}
 use lib.ListN.{length}
-use Rattle.rebac.specs.Matter.{Matter, Pair, pairsOf, permitted}
+use Rattle.rebac.specs.Matter.{Matter, Pair, IsPair, pairsOf, permitted}
 use Rattle.rebac.specs.Words.{Word}
 use Rattle.rebac.specs.Paths.{Graph, Triple, TriplePath, pathLabel, HasPath, has, pathCount}
-use Rattle.rebac.specs.Symbols.{VariationPath, alphabet, holds, enlarged, capOf}
+use Rattle.rebac.specs.Symbols.{plain, VariationPath, alphabet, holds, enlarged, capOf}
 use Rattle.rebac.specs.Existence.{matterWords, score, problemOver, problemOf}
-use Rattle.rebac.proofs.SymbolsLaws.{holds-loop, holds-in, holds-out}
+use Rattle.rebac.proofs.SymbolsLaws.{holds-loop, holds-in, holds-out, holds-listed}
 use Rattle.rebac.proofs.Triples.{same-paths}
 use Rattle.rebac.proofs.PairsLaws.{pairs-out}
-use Rattle.rebac.specs.NextWord.{nextWord}
+use Rattle.rebac.proofs.Reach.{has-in}
+use Rattle.rebac.proofs.Conversion.{pair-words-in}
+use Rattle.rebac.specs.NextWord.{pairWords, nextWord}
 use Rattle.rebac.specs.Forms.{searchNext, nextByForms}
 use Rattle.rebac.proofs.FormLaws.{next-by-forms}
 use Rattle.rebac.proofs.SearchLaws.{long-word, count-more}
@@ -37,6 +39,24 @@ matter-paths M p w =
 -- 01: "D may exceed n−1; longer words then don't occur."
 pub matter-long-word : (M : Matter) (p : Pair) (w : Word) → List·Memᴰ p (pairsOf (M .parties)) → M .parties ≤ length w → has (enlarged M) p w ≡ false
 matter-long-word M p w m h = long-word (enlarged M) p w (pairs-out (M .parties) m .first) h
+
+-- every relation of a pair is a word of the pair, the label's plain symbol, whatever relations the pair has besides
+pub relation-word : (M : Matter) (p : Pair) (label : ℕ) → IsPair (M .parties) p → 1 ≤ M .longest → label < M .labels → M .edge (p .first) (p .second) label ≡ true → List·Memᴰ ((4 * label + 0) ∷ []) (pairWords M p)
+relation-word M p label i d l e =
+    let h : holds M (p .first) (p .second) (4 * label + 0) ≡ true =
+    holds-in M (p .first) (p .second) (4 * label + 0) (record { first = i .first; second = i .second; different = i .different; row = plain label l refl e }) in
+    pair-words-in M p ((4 * label + 0) ∷ [])
+    (record {
+      over = λ s m. rw (List·Memᴰ·eq-of-singleton m) (holds-listed M (p .first) (p .second) (4 * label + 0) h);
+      some = omega arith;
+      short = omega arith;
+    })
+    (has-in (enlarged M) p ((4 * label + 0) ∷ []) (p .second ∷ [])
+    (record {
+      some = omega arith;
+      walk = (i .second, h, refl);
+      simple = (λ m. i .different (List·Memᴰ·eq-of-singleton m), (λ m. absurd (List·Memᴰ·not-nil m), tt));
+    }))
 
 -- the score does not fall when more symbols hold, nor when the cap rises
 pub score-more : (M N : Matter) → M .parties ≡ N .parties → ((u v s : ℕ) → holds M u v s ≡ true → holds N u v s ≡ true) → capOf (M .language) ≤ capOf (N .language) → (p : Pair) (w : Word) → score M p w ≤ score N p w

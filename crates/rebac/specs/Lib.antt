@@ -10,5 +10,4 @@ pub mod Existence
 pub mod Options
 pub mod NextWord
 pub mod Forms
-pub mod Cases
 pub mod Marked

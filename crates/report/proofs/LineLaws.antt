@@ -8,12 +8,12 @@ use lib.Dec.{ltb}
 use lib.ListN.{length, set, length-append}
 use borrow.Author.Tests.{lt-ltb, le-ltb, ltb-true, ltb-false}
 use Rattle.lists.proofs.Cases.{by-test}
-use Rattle.house_file.specs.Check.{numberOf}
-use Rattle.house_file.specs.declared.reply.Refusal.{Refusal}
+use Rattle.house_layout.specs.Reply.{numberOf}
+use Rattle.house_layout.specs.declared.reply.Refusal.{Refusal}
 use Rattle.mining.specs.declared.build.Pair.{Pair}
-use Rattle.rules.specs.Text.{lineEnd}
-use Rattle.rules.specs.Writing.{put}
-use Rattle.rules.proofs.PutLaws.{put-one, put-put, put-length, then-one}
+use Rattle.rule_text.specs.Text.{lineEnd}
+use Rattle.rule_bytes.specs.Writing.{put}
+use Rattle.rule_bytes.proofs.PutLaws.{put-one, put-put, put-length, then-one}
 use Rattle.conversion.specs.declared.verdict.VerdictReply.the-variants.{Convertible, NoWord, Rival}
 use Rattle.report.specs.Report.{Wrote, digitsIn, decimalText, space, noWordText, rivalText, pairText, refusedLine, verdictLine}
 

@@ -1,24 +1,28 @@
--- What is printed fits: a verdict's line has at most 64 bytes, what is written is inside its slice, and standard input that is cut is refused. Assumes nothing.
+-- What is printed fits: a verdict's line has at most 64 bytes, what is written is inside its slice, and standard input that is cut is refused.
+-- The line, and the list's part in the tail behind it, are the text of the file. Assumes nothing.
 use mathlib.Core.Path.{_≡_, refl, sym, ap, _∙_}
-use mathlib.Core.List.{List, []}
-use Prim.Native.Nat.{ℕ, _+_, _≤_, _<_}
+use mathlib.Core.List.{List, [], _++_, append-nil}
+use Prim.Native.Nat.{ℕ, _+_, _-_, _≤_, _<_}
 use native.Mathlib.Omega.{arith}
+use native.Mathlib.Nat.{zero-add}
 use lib.Dec.{leb}
-use lib.ListN.{length, take, drop, length-append}
-use lib.Seq.{length-take-le, take-append-seam}
+use lib.ListN.{length, take, drop, length-append, length-drop, drop-of-length-le}
+use lib.Seq.{length-take-le, take-append-seam, take-all, drop-drop}
+use borrow.Rule.Slice.PartAt.{part-to-end}
+use borrow.Rule.Slice.PartMut.{putMid, midOf}
 use borrow.Author.Tests.{leb-true, leb-false}
 use Rattle.lists.proofs.Cases.{by-test}
 use Rattle.rebac.specs.Verdict.{convertible}
 use Rattle.rebac.specs.Existence.{verdictOf}
-use Rattle.house_file.specs.Check.{numberOf, checkOf}
-use Rattle.house_file.specs.declared.reply.Check.the-variants as check
-use Rattle.house_file.specs.declared.reply.Refusal.{Refusal}
+use Rattle.house_layout.specs.Reply.{numberOf}
+use Rattle.house_file.specs.Check.{checkOf}
+use Rattle.house_layout.specs.declared.reply.Check.the-variants as check
+use Rattle.house_layout.specs.declared.reply.Refusal.{Refusal}
 use Rattle.house_file.proofs.WellFormedLaws.{framing}
 use Rattle.graph.specs.Archive.{matterOf}
-use Rattle.rules.specs.Reading.{IsList}
-use Rattle.rules.specs.Text.{listText}
-use Rattle.rules.specs.Writing.{put}
-use Rattle.rules.proofs.PutLaws.{put-nil}
+use Rattle.rule_bytes.specs.Reading.{IsList}
+use Rattle.rule_text.specs.Text.{listText}
+use Rattle.rule_bytes.specs.Writing.{put}
 use Rattle.rules.proofs.MatterLists.{mined-is-list}
 use Rattle.mining.specs.declared.build.Pair.{Pair}
 use Rattle.conversion.specs.Calls.{listOf, bytesOf, verdictCall, miningCall, minedReply, outputOf}
@@ -26,10 +30,10 @@ use Rattle.conversion.specs.declared.mine.MiningReply.{MiningReply}
 use Rattle.conversion.specs.declared.mine.MiningReply.the-variants.{Refused as RefusedMining, Wrote as WroteList}
 use Rattle.conversion.specs.declared.verdict.VerdictReply.{VerdictReply}
 use Rattle.conversion.specs.declared.verdict.VerdictReply.the-variants.{Refused, Convertible, NoWord, Rival}
-use Rattle.conversion.proofs.RefusalNumbers.{number-small}
+use Rattle.house_layout.proofs.RefusalNumbers.{number-small}
 use Rattle.conversion.proofs.Demand3.{by-check, convertible-accepted, convertible-verdict, mining-exact, mining-short, length-bound, no-word-parties, rival-parties}
-use Rattle.report.specs.Report.{Wrote, Inside, decimalText, pairText, refusedLine, verdictLine, listPart}
-use Rattle.report.proofs.LineLaws.{decimal-length, pair-length, refused-length, convertible-length, no-word-length, rival-length}
+use Rattle.report.specs.Report.{Wrote, Inside, decimalText, pairText, refusedLine, verdictLine, listPart, fileText, reportText}
+use Rattle.report.proofs.LineLaws.{wrote-two, decimal-length, pair-length, refused-length, convertible-length, no-word-length, rival-length}
 
 two-digits : (n : ℕ) → n < 32 → length (decimalText n) ≤ 2
 two-digits n h = decimal-length 1 n (omega arith)
@@ -57,16 +61,67 @@ cut-refused input h e =
     let g = framing (take 35785 input) e in
     omega (arith, length-take-le 35785 input h, g .size, g .fields .parties .1, g .fields .records)
 
+-- "up to 35,785 bytes; more is cut": what is read of standard input is its first 35,785 bytes, and the text of these is the input's
+pub read-text : (input : List ℕ) → fileText (take 35785 input) ≡ reportText input
+unfolding reportText
+read-text input = refl
+
+pub whole-text : (input : List ℕ) → length input ≤ 35785 → fileText input ≡ reportText input
+whole-text input h = ap fileText (sym (take-all 35785 input h)) ∙ read-text input
+
+-- a refused file has its line alone, and so has input that is cut
+pub refused-text : (f : List ℕ) (x : Refusal) → checkOf f ≡ check.Refused x → fileText f ≡ refusedLine x
+unfolding fileText verdictCall verdictLine
+refused-text f x e = rw e (append-nil (refusedLine x))
+
+pub cut-text : (input : List ℕ) → 35785 ≤ length input → (x : Refusal) × (reportText input ≡ refusedLine x)
+cut-text input h =
+    by-check (checkOf (take 35785 input))
+    (λ e. absurd (cut-refused input h e))
+    (λ x e. (x, sym (read-text input) ∙ refused-text (take 35785 input) x e))
+
+pub inside : (n : ℕ) (l : List ℕ) → n ≤ length l → Inside n l
+inside n l h = (h, sym (length-take-le n l h))
+
 -- what was written from the first byte on is counted inside the slice
 pub wrote-inside : {old x new : List ℕ} {end : ℕ} → Wrote old 0 x new end → Inside end new
 unfolding put
 wrote-inside {old} {x} {new} {end} w =
     let n : length new ≡ length x + length (drop (0 + length x) old) = ap length (w .bytes) ∙ length-append x (drop (0 + length x) old) in
-    let l : end ≤ length new = omega (arith, w .place) in
-    (l, sym (length-take-le end new l))
+    inside end new (omega (arith, w .place))
 
-pub wrote-nothing : (b : List ℕ) → Wrote b 0 [] b 0
-wrote-nothing b = record { bytes = sym (put-nil b 0); place = omega arith }
+-- a tail lent from a place on: what is written into it stands, once it is back, at that place
+tail-put : (b : List ℕ) (at : ℕ) (x : List ℕ) → take at b ++ put (drop at b) 0 x ≡ put b at x
+unfolding put
+tail-put b at x =
+    let d : drop (0 + length x) (drop at b) ≡ drop (at + length x) b = ap (λ (k : ℕ). drop k (drop at b)) (zero-add (length x)) ∙ drop-drop (length x) at b in
+    ap (λ (l : List ℕ). take at b ++ (x ++ l)) d
+
+put-tail : (b y : List ℕ) (at : ℕ) → at ≤ length b → putMid at (length b - at) b y ≡ take at b ++ y
+put-tail b y at h =
+    ap (λ (z : List ℕ). take at b ++ (y ++ z)) (drop-of-length-le (drop at b) {i = length b - at} (omega (arith, length-drop at b))) ∙ ap (λ (z : List ℕ). take at b ++ z) (append-nil y)
+
+pub wrote-tail : (b : List ℕ) (at : ℕ) {x new : List ℕ} {end : ℕ} → at ≤ length b → Wrote (midOf at (length b - at) b) 0 x new end → Wrote b at x (putMid at (length b - at) b new) (at + end)
+wrote-tail b at {x} {new} {end} h w = record {
+  bytes = put-tail b new at h ∙ ap (λ (l : List ℕ). take at b ++ l) (w .bytes ∙ ap (λ (l : List ℕ). put l 0 x) (part-to-end b at)) ∙ tail-put b at x;
+  place = omega (arith, w .place);
+}
+
+-- the text of a file: the line alone, or the line and the list's part after it
+text-by : (f : List ℕ) (v : VerdictReply) → verdictCall f ≡ v → fileText f ≡ verdictLine v ++ listPart (matterOf f) v
+unfolding fileText
+text-by f v e = rw e
+
+module _ (f : List ℕ) {v : VerdictReply} (e : verdictCall f ≡ v) {old new : List ℕ} {end : ℕ} where
+  pub line-alone : listPart (matterOf f) v ≡ [] → Wrote old 0 (verdictLine v) new end → Wrote old 0 (fileText f) new end × Inside end new
+  line-alone n w =
+      let t : fileText f ≡ verdictLine v = text-by f v e ∙ ap (λ (l : List ℕ). verdictLine v ++ l) n ∙ append-nil (verdictLine v) in
+      (rw t w, wrote-inside w)
+
+  pub line-then-list : {out : List ℕ} {last : ℕ} → Wrote old 0 (verdictLine v) out end → Wrote out end (listPart (matterOf f) v) new last → Wrote old 0 (fileText f) new last × Inside last new
+  line-then-list w p =
+      let q = wrote-two w p (omega arith) in
+      (rw (text-by f v e) q, wrote-inside q)
 
 bytes-list : (f : List ℕ) → checkOf f ≡ check.Accepted → verdictOf (matterOf f) ≡ convertible → IsList (bytesOf (matterOf f)) (listOf (matterOf f))
 unfolding bytesOf listOf

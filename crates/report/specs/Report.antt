@@ -5,12 +5,13 @@ use mathlib.Core.List.{List, [], _∷_, _++_}
 use lib.ListN.{length, take}
 use lib.Dec.{ltb, leb}
 use Rattle.rebac.specs.Matter.{Matter}
-use Rattle.house_file.specs.Check.{numberOf, pick}
-use Rattle.house_file.specs.declared.reply.Refusal.{Refusal}
-use Rattle.house_file.specs.declared.reply.Refusal.the-variants.{Output}
+use Rattle.house_layout.specs.Reply.{numberOf}
+use Rattle.lists.specs.Lists.{pick}
+use Rattle.house_layout.specs.declared.reply.Refusal.{Refusal}
+use Rattle.house_layout.specs.declared.reply.Refusal.the-variants.{Output}
 use Rattle.graph.specs.Archive.{matterOf}
-use Rattle.rules.specs.Writing.{put}
-use Rattle.rules.specs.Text.{lineEnd, listText}
+use Rattle.rule_bytes.specs.Writing.{put}
+use Rattle.rule_text.specs.Text.{lineEnd, listText}
 use Rattle.mining.specs.declared.build.Pair.{Pair}
 use Rattle.conversion.specs.Calls.{listOf, verdictCall}
 use Rattle.conversion.specs.declared.verdict.VerdictReply.{VerdictReply}

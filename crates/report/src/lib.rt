@@ -6,5 +6,4 @@ pub use line::first_line;
 pub use line::put_bytes;
 pub use line::put_decimal;
 pub use line::refused_line;
-pub use report::Printed;
 pub use report::write_report;

@@ -4,7 +4,7 @@ ghost use lib.ListN.{length};
 ghost use Rattle.conversion.specs.declared.verdict.VerdictReply.the-variants.{Convertible, NoWord, Rival};
 ghost use Rattle.report.specs.Report.{Wrote, decimalText, pairText, refusedLine, verdictLine};
 use conversion::VerdictReply;
-use house_file::Refusal;
+use house_layout::Refusal;
 use mining::Pair;
 
 pub fn put_bytes(out: &mut [u8], at: usize, s: &[u8]) -> usize
@@ -48,7 +48,7 @@ pub fn refused_line(x: Refusal, out: &mut [u8]) -> usize
     ensures { λ r. ⌜ Wrote (now (out .entry)) 0 (refusedLine x) (now (out .exit)) r ⌝ }
 {
     let word = put_bytes(out, 0, b"refused ");
-    let end = put_decimal(out, word, house_file::number(x) as usize);
+    let end = put_decimal(out, word, house_layout::number(x) as usize);
     put_bytes(out, end, b"\n")
 }
 

@@ -5,17 +5,11 @@ ghost use lib.ListN.{length};
 ghost use Rattle.graph.specs.Archive.{matterOf};
 ghost use Rattle.conversion.specs.Calls.{verdictCall};
 ghost use Rattle.conversion.specs.declared.verdict.VerdictReply.the-variants.{Convertible};
-ghost use Rattle.report.specs.Report.{Wrote, Inside, verdictLine, listPart};
+ghost use Rattle.report.specs.Report.{Wrote, Inside, listPart, fileText};
 use crate::line::first_line;
 use crate::line::refused_line;
 use conversion::MiningReply;
 use conversion::VerdictReply;
-
-// The lengths of the two parts.
-pub struct Printed {
-    pub line: usize,
-    pub list: usize,
-}
 
 // The list of a convertible file as text, or "refused 14" where it is above 65,536 bytes. Three bytes for each byte of the list are enough.
 fn list_part(file: &[u8], text: &mut [u8]) -> usize
@@ -26,26 +20,23 @@ fn list_part(file: &[u8], text: &mut [u8]) -> usize
     let mut list = [0u8; 65536];
     let m = conversion::mining_call(file, &mut scratch, &mut list);
     match m {
-        MiningReply::Wrote(k) => rules::list_text(&list[..k], text),
+        MiningReply::Wrote(k) => rule_text::list_text(&list[..k], text),
         MiningReply::Refused(x) => refused_line(x, text),
     }
 }
 
-// What permitconv prints for a file: `line` takes the verdict's line, `text` the list's.
-pub fn write_report(file: &[u8], line: &mut [u8], text: &mut [u8]) -> Printed
-    requires { ⌜ (64 ≤ length (now line)) × (196608 ≤ length (now text)) ⌝ }
-    ensures { λ r. ⌜ Wrote (now (line .entry)) 0 (verdictLine (verdictCall (now (file .entry)))) (now (line .exit)) (r .line) × Wrote (now (text .entry)) 0 (listPart (matterOf (now (file .entry))) (verdictCall (now (file .entry)))) (now (text .exit)) (r .list) ⌝ }
-    ensures { λ r. ⌜ Inside (r .line) (now (line .exit)) × Inside (r .list) (now (text .exit)) ⌝ }
+// What permitconv prints for a file, from the first byte on, and its length: 64 bytes are enough for the line.
+pub fn write_report(file: &[u8], text: &mut [u8]) -> usize
+    requires { ⌜ 196672 ≤ length (now text) ⌝ }
+    ensures { λ r. ⌜ Wrote (now (text .entry)) 0 (fileText (now (file .entry))) (now (text .exit)) r ⌝ }
+    ensures { λ r. ⌜ Inside r (now (text .exit)) ⌝ }
 {
     let v = conversion::verdict_call(file);
-    let end = first_line(v, line);
+    let end = first_line(v, text);
     match v {
-        VerdictReply::Refused(x) => Printed { line: end, list: 0 },
-        VerdictReply::Convertible(k) => Printed {
-            line: end,
-            list: list_part(file, text),
-        },
-        VerdictReply::NoWord(p) => Printed { line: end, list: 0 },
-        VerdictReply::Rival(p, q) => Printed { line: end, list: 0 },
+        VerdictReply::Refused(x) => end,
+        VerdictReply::Convertible(k) => end + list_part(file, &mut text[end..]),
+        VerdictReply::NoWord(p) => end,
+        VerdictReply::Rival(p, q) => end,
     }
 }

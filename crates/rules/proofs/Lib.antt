@@ -1,11 +1,3 @@
-pub mod Parsing
-pub mod RoundTrip
-pub mod ReadingLaws
-pub mod CopyLaws
-pub mod PlaceLaws
 pub mod MeetLaws
 pub mod PermitLaws
-pub mod PutLaws
-pub mod TextLaws
 pub mod MatterLists
-pub mod CaseBytesHold

@@ -14,43 +14,39 @@ use Rattle.lists.proofs.ListLaws.{all-in, all-of, map-out}
 use Rattle.lists.proofs.OrderLaws.{length-map}
 use Rattle.rebac.specs.Matter.{Matter, pair, permitted}
 use Rattle.rebac.specs.Words.{Word}
-use Rattle.rebac.specs.Symbols.{inLanguage, capOf}
+use Rattle.rebac.specs.Symbols.{capOf}
 use Rattle.rebac.specs.Verdict.{convertible}
 use Rattle.rebac.specs.Existence.{verdictOf, minedList, MatterWord, permitsPair, Converts, plainTerm, plainList}
 use Rattle.rebac.proofs.SymbolsLaws.{language-listed, listed-language}
 use Rattle.rebac.proofs.PairsLaws.{pairs-in}
 use Rattle.rebac.proofs.Conversion.{mined-converts, mined-terms-few, mined-items-few}
 use Rattle.house_file.specs.Check.{checkOf}
-use Rattle.house_file.specs.declared.reply.Check.the-variants.{Accepted}
+use Rattle.house_layout.specs.declared.reply.Check.the-variants.{Accepted}
 use Rattle.graph.specs.Archive.{matterOf}
 use Rattle.graph.proofs.LoadLaws.{accepted-limits}
-use Rattle.rules.specs.ListBytes.{encodeList, legalWord, LegalList}
+use Rattle.rule_bytes.specs.ListBytes.{encodeList, legalWord, LegalList}
 use Rattle.graph.specs.Legal.{legalSymbol, isPair}
-use Rattle.rules.specs.Reading.{IsList}
-use Rattle.rules.proofs.PlaceLaws.{list-legal-fits}
+use Rattle.rule_bytes.specs.Reading.{IsList}
+use Rattle.rule_bytes.proofs.PlaceLaws.{list-legal-fits}
 use Rattle.rules.specs.Permit.{yesOrNo, permitIn, permitReply}
-use Rattle.rules.proofs.RoundTrip.{decode-encode}
-use Rattle.paths.proofs.CallLaws.{pair-of}
+use Rattle.rule_bytes.proofs.RoundTrip.{decode-encode}
+use Rattle.graph.proofs.LegalLaws.{pair-of, legal-symbol}
 
 -- a list that is legal for a matter
 abbrev pub LegalFor : Matter → List (List Word) → Type 0
 LegalFor M l = LegalList (M .labels) (M .language) (M .longest) l
 
 module _ (M : Matter) where
-  pub legal-symbol : (s : ℕ) → legalSymbol (M .labels) (M .language) s ≡ inLanguage M s
-  unfolding legalSymbol inLanguage
-  legal-symbol s = refl
-
   -- the legal words are the matter's words: 1 to D symbols of its language
   pub legal-words : (w : Word) → (legalWord (M .labels) (M .language) (M .longest) w ≡ true) ↔ MatterWord M w
   unfolding legalWord
   legal-words w = (
     λ h. let k = and-right (leb 1 (length w)) _ h in record {
-      over = λ s m. language-listed M s (sym (legal-symbol s) ∙ all-in (legalSymbol (M .labels) (M .language)) w (and-right (leb (length w) (M .longest)) _ k) m);
+      over = λ s m. language-listed M s (sym (legal-symbol M s) ∙ all-in (legalSymbol (M .labels) (M .language)) w (and-right (leb (length w) (M .longest)) _ k) m);
       some = leb-true 1 (length w) (and-left _ _ h);
       short = leb-true (length w) (M .longest) (and-left _ _ k);
     },
-    λ h. rw (le-leb 1 (length w) (h .some), le-leb (length w) (M .longest) (h .short)) (all-of (legalSymbol (M .labels) (M .language)) w (λ s m. legal-symbol s ∙ listed-language M s (h .over s m))),
+    λ h. rw (le-leb 1 (length w) (h .some), le-leb (length w) (M .longest) (h .short)) (all-of (legalSymbol (M .labels) (M .language)) w (λ s m. legal-symbol M s ∙ listed-language M s (h .over s m))),
   )
 
   -- a list that converts the matter is legal where its counts fit two bytes

@@ -5,10 +5,10 @@ use mathlib.Core.List.{List, [], _++_}
 use Prim.Native.Nat.{ℕ, _+_, _-_, _<_}
 use lib.ListN.{drop}
 use Rattle.lists.specs.Lists.{allOf, anyOf, flatMap}
-use Rattle.house_file.specs.Layout.{u16At}
-use Rattle.rules.specs.ListBytes.{encodeWord, encodeTerm}
-use Rattle.rules.specs.Reading.{wordAt, FitWord, FitTerm, TermAt, IsList}
-use Rattle.rules.proofs.PlaceLaws.{Ahead, Entry, entry, no-more, word-next, term-ahead, list-ahead}
+use Rattle.house_layout.specs.Layout.{u16At}
+use Rattle.rule_bytes.specs.ListBytes.{encodeWord, encodeTerm}
+use Rattle.rule_bytes.specs.Reading.{wordAt, FitWord, FitTerm, TermAt, IsList}
+use Rattle.rule_bytes.proofs.PlaceLaws.{Ahead, Entry, entry, no-more, word-next, term-ahead, list-ahead}
 
 and-true : (b : Bool) → (b && true) ≡ b
 and-true true = refl

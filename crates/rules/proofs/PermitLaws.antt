@@ -1,5 +1,5 @@
 -- The permit call step by step: pair, list, answer; over the masks that stand for the matter. Assumes nothing.
-use mathlib.Core.Path.{_≡_, sym, ap, _∙_}
+use mathlib.Core.Path.{_≡_, refl, sym, ap, _∙_}
 use mathlib.Core.Bool.{Bool, true, false}
 use mathlib.Core.List.{List}
 use mathlib.Core.Option.{some}
@@ -11,17 +11,20 @@ use Rattle.rebac.specs.Matter.{Matter, pair}
 use Rattle.rebac.specs.Paths.{Graph, has}
 use Rattle.rebac.specs.Existence.{hasAll, permitsPair}
 use Rattle.rebac.specs.Options.{isSome}
-use Rattle.house_file.specs.declared.reply.Refusal.the-variants.{RuleList, PartyPair}
+use Rattle.house_layout.specs.declared.reply.Refusal.the-variants.{RuleList, PartyPair}
 use Rattle.graph.specs.Archive.{Shows}
 use Rattle.graph.specs.declared.Archive.{Archive}
 use Rattle.paths.proofs.CallLaws.{shown-graph}
-use Rattle.rules.specs.ListBytes.{decodeList, Bytes}
-use Rattle.rules.specs.Reading.{IsList, SomeList}
-use Rattle.rules.specs.Permit.{yesOrNo, answerBy, permitIn, meetsTerm, meetsList}
+use Rattle.rule_bytes.specs.ListBytes.{decodeList, Bytes}
+use Rattle.rule_bytes.specs.Reading.{IsList, SomeList}
+use Rattle.rules.specs.Permit.{saidPermit, yesOrNo, answerBy, permitIn, meetsTerm, meetsList}
 use Rattle.graph.specs.Legal.{isPair}
-use Rattle.rules.specs.declared.call.PermitReply.the-variants.{Refused}
-use Rattle.rules.proofs.RoundTrip.{encode-decode}
-use Rattle.rules.proofs.PlaceLaws.{list-legal-fits}
+use Rattle.rules.specs.declared.call.PermitReply.{PermitReply}
+use Rattle.rules.specs.declared.call.PermitReply.the-variants.{Refused, Yes, No}
+use Rattle.house_layout.proofs.RefusalNumbers.{refusal-said}
+use Rattle.lists.proofs.Cases.{clash}
+use Rattle.rule_bytes.proofs.RoundTrip.{encode-decode}
+use Rattle.rule_bytes.proofs.PlaceLaws.{list-legal-fits}
 use Rattle.rebac.proofs.OptionLaws.{some-of, none-of}
 
 -- bytes that decode are those of a list that fits
@@ -69,3 +72,15 @@ module _ (M : Matter) (a : Archive) (h : Shows M a) where
         the-answer r k =
             let o = checked M a h list bytes e in
             in-pair ∙ rw (o .decodes) (ap yesOrNo (sym (k (o .listed) (o .is) ∙ same-answer first second (o .listed))))
+
+-- equal numbers and values mean equal replies
+pub permit-said : (r s : PermitReply) → saidPermit r ≡ saidPermit s → r ≡ s
+permit-said (Refused x) (Refused y) e = ap Refused (refusal-said e)
+permit-said (Refused x) Yes e = clash (cc e)
+permit-said (Refused x) No e = clash (cc e)
+permit-said Yes (Refused y) e = clash (cc e)
+permit-said Yes Yes e = refl
+permit-said Yes No e = clash (cc e)
+permit-said No (Refused y) e = clash (cc e)
+permit-said No Yes e = clash (cc e)
+permit-said No No e = refl

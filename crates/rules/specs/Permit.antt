@@ -1,7 +1,7 @@
 -- The permit call (01, "The calls").
 use Prim.Native.Nat.{ℕ}
 use mathlib.Core.Bool.{Bool, true, false}
-use mathlib.Core.List.{List}
+use mathlib.Core.List.{List, [], _∷_}
 use mathlib.Core.Option.{Option, none, some}
 use Rattle.lists.specs.Lists.{allOf, anyOf}
 use Rattle.masks.specs.declared.Table.{Table}
@@ -9,14 +9,21 @@ use Rattle.rebac.specs.Matter.{Matter, Pair, pair}
 use Rattle.rebac.specs.Paths.{has}
 use Rattle.rebac.specs.Existence.{permitsPair}
 use Rattle.house_file.specs.Check.{checkOf}
-use Rattle.house_file.specs.declared.reply.Refusal.the-variants.{RuleList, PartyPair}
+use Rattle.house_layout.specs.Reply.{Said, refusal, values, numberOf}
+use Rattle.house_layout.specs.declared.reply.Refusal.the-variants.{RuleList, PartyPair}
 use Rattle.graph.specs.Archive.{matterOf}
 use Rattle.graph.specs.Legal.{isPair}
 use Rattle.graph.specs.Refusals.{unless, afterCheck}
-use Rattle.paths.specs.Ask.{tableGraph}
-use Rattle.rules.specs.ListBytes.{decodeList}
+use Rattle.search.specs.Ask.{tableGraph}
+use Rattle.rule_bytes.specs.ListBytes.{decodeList}
 use Rattle.rules.specs.declared.call.PermitReply.{PermitReply}
 use Rattle.rules.specs.declared.call.PermitReply.the-variants.{Refused, Yes, No}
+
+-- the reply in 01's number and values: no is 0, yes is 1
+abbrev pub saidPermit : PermitReply → Said
+saidPermit (Refused x) = refusal (numberOf x)
+saidPermit No = values (0 ∷ [])
+saidPermit Yes = values (1 ∷ [])
 
 abbrev pub yesOrNo : Bool → PermitReply
 yesOrNo true = Yes

@@ -5,16 +5,17 @@ ghost use Prim.Native.Nat.{ℕ, _≤_};
 ghost use lib.ListN.{drop};
 ghost use Rattle.rebac.specs.Matter.{Matter, IsPair, pair};
 ghost use Rattle.graph.specs.Archive.{Shows};
-ghost use Rattle.rules.specs.Reading.{TermAt, SomeTerm, IsList, SomeList};
+ghost use Rattle.rule_bytes.specs.Reading.{TermAt, SomeTerm, IsList, SomeList};
 ghost use Rattle.rules.specs.Permit.{permitIn, permitReply, meetsTerm, meetsList};
-use crate::check::check_list;
-use crate::read::read_word;
+use rule_bytes::check_list;
+use rule_bytes::read_word;
 use graph::Archive;
-use house_file::Check;
-use house_file::Refusal;
-use house_file::u16_at;
+use house_layout::Check;
+use house_layout::Refusal;
+use house_layout::u16_at;
 use masks::Table;
 
+// `saidPermit` gives 01's number and values of each reply; equal ones mean equal replies (`permit-said`).
 pub enum PermitReply {
     Refused(Refusal),
     Yes,
@@ -46,7 +47,7 @@ pub fn meets_term(
         let r = read_word(list, place);
         if met {
             let word = r.word;
-            met = paths::has_word(g, n, first, second, word);
+            met = search::has_word(g, n, first, second, word);
         }
         place = r.next;
         left -= 1;

@@ -2,8 +2,8 @@
 use mathlib.Core.Path.{_≡_, sym, ap, _∙_}
 use native.Mathlib.Omega.{arith}
 use Rattle.house_file.specs.Check.{checkOf}
-use Rattle.house_file.specs.declared.header.Header.{Header}
-use Rattle.house_file.specs.declared.reply.Check.the-variants.{Accepted}
+use Rattle.house_layout.specs.declared.header.Header.{Header}
+use Rattle.house_layout.specs.declared.reply.Check.the-variants.{Accepted}
 use Rattle.house_file.proofs.DecodeLaws.{refused-not}
 use Rattle.graph.specs.Archive.{matterOf, Records}
 use Rattle.graph.proofs.LoadLaws.{accepted-records}

@@ -7,7 +7,7 @@ use Rattle.console.proofs.pack.pack_mining.Statement.{statement}
 use Rattle.console.proofs.pack.pack_mining.Tie as tie
 use Rattle.console.proofs.pack.pack_mining.Reads as reads
 use Rattle.console.proofs.pack.pack_mining.Lts as lts
-use Rattle.house_file.proofs.number.Reads as number-reads
+use Rattle.house_layout.proofs.number.Reads as number-reads
 
 -- src/pack.rt:30:30
 enum-known-m : tie.Need-enum-known-m

@@ -7,7 +7,7 @@ use Rattle.console.proofs.pack.pack_verdict.Statement.{statement}
 use Rattle.console.proofs.pack.pack_verdict.Tie as tie
 use Rattle.console.proofs.pack.pack_verdict.Reads as reads
 use Rattle.console.proofs.pack.pack_verdict.Lts as lts
-use Rattle.house_file.proofs.number.Reads as number-reads
+use Rattle.house_layout.proofs.number.Reads as number-reads
 
 -- src/pack.rt:13:31
 enum-known-v : tie.Need-enum-known-v

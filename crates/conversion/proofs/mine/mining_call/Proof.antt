@@ -2,7 +2,7 @@
 use mathlib.Core.Path.{_≡_, refl, sym, _∙_}
 use borrow.Author.Needs.{needs}
 use Rattle.house_file.specs.Check.{checkOf}
-use Rattle.house_file.specs.declared.reply.Check.the-variants.{Accepted}
+use Rattle.house_layout.specs.declared.reply.Check.the-variants.{Accepted}
 use Rattle.graph.specs.Archive.{matterOf, Shows}
 use Rattle.conversion.specs.Calls.{miningCall}
 use Rattle.conversion.proofs.mine.mining_call.Statement.{statement}

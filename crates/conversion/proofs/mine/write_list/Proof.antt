@@ -5,9 +5,9 @@ use Prim.Native.Nat.{_-_, _*_, _≤_}
 use native.Mathlib.Omega.{arith}
 use lib.ListN.{length}
 use borrow.Author.Tests.{not-true, not-false}
-use Rattle.rules.specs.ListBytes.{encodeCount}
-use Rattle.rules.proofs.RoundTrip.{count-size}
-use Rattle.rules.proofs.PutLaws.{put-length}
+use Rattle.rule_bytes.specs.ListBytes.{encodeCount}
+use Rattle.rule_bytes.proofs.RoundTrip.{count-size}
+use Rattle.rule_bytes.proofs.PutLaws.{put-length}
 use Rattle.rebac.specs.Words.{Word}
 use Rattle.rebac.specs.Rules.{RuleList}
 use Rattle.mining.specs.Taking.{due}

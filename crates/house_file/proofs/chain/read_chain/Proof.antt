@@ -6,12 +6,12 @@ use mathlib.Core.Bool.{true}
 use Prim.Native.Nat.{ℕ, suc, _-_, _≤_, _<_}
 use native.Mathlib.Omega.{arith}
 use lib.ListN.{length-set}
-use Rattle.house_file.proofs.RecordLaws.{kind-small, bit-small, target-below}
+use Rattle.house_layout.proofs.RecordLaws.{kind-small, bit-small, target-below}
 use lib.ListN.{length, set}
-use Rattle.house_file.specs.Layout.{headerOf, partiesOf, labelsOf, recordsOf, recordOf}
-use Rattle.house_file.specs.Check.{legalKind}
-use Rattle.house_file.specs.declared.header.Header.{Header}
-use Rattle.house_file.specs.declared.reply.Check.the-variants.{Accepted}
+use Rattle.house_layout.specs.Layout.{headerOf, partiesOf, labelsOf, recordsOf, recordOf}
+use Rattle.house_layout.specs.Fields.{legalKind}
+use Rattle.house_layout.specs.declared.header.Header.{Header}
+use Rattle.house_layout.specs.declared.reply.Check.the-variants.{Accepted}
 use Rattle.house_file.specs.Reading.{Marks}
 use Rattle.house_file.proofs.Clear.{clear}
 use Rattle.house_file.proofs.ChainLaws.{Here, judged, here-start, here-end, here-link, here-refused, here-next, tests, clearer, unlike}

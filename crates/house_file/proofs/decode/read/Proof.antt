@@ -4,11 +4,12 @@ use mathlib.Core.Bool.{true}
 use native.Mathlib.Omega.{arith}
 use borrow.Author.Tests.{not-true, not-false}
 use lib.ListN.{length}
-use Rattle.house_file.specs.Layout.{sizeOf, partiesOf, recordsOf, labelsOf, permitKind}
-use Rattle.house_file.specs.Check.{fieldsInRange, checkOf, chainsCheck}
+use Rattle.house_layout.specs.Layout.{sizeOf, partiesOf, recordsOf, labelsOf, permitKind}
+use Rattle.house_layout.specs.Fields.{fieldsInRange}
+use Rattle.house_file.specs.Check.{checkOf, chainsCheck}
 use Rattle.house_file.specs.Meaning.{FieldsRight, isPermitted}
-use Rattle.house_file.specs.declared.header.Header.{Header}
-use Rattle.house_file.proofs.RecordLaws.{permit-legal}
+use Rattle.house_layout.specs.declared.header.Header.{Header}
+use Rattle.house_layout.proofs.RecordLaws.{permit-legal}
 use Rattle.house_file.proofs.DecodeLaws.{refused-not}
 use Rattle.house_file.proofs.WellFormedLaws.{check-short, check-field, check-size, check-chains, fields-right}
 use borrow.Author.Needs.{needs}

@@ -4,9 +4,9 @@ use mathlib.Core.Bool.{true, false}
 use Prim.Native.Nat.{ℕ, _-_, _≤_, _<_}
 use borrow.Author.Needs.{needs}
 use lib.ListN.{length, length-replicate}
-use Rattle.house_file.specs.Layout.{partiesOf, recordsOf}
+use Rattle.house_layout.specs.Layout.{partiesOf, recordsOf}
 use Rattle.house_file.specs.Reading.{chainWalk, everyReached}
-use Rattle.house_file.specs.declared.header.Header.{Header}
+use Rattle.house_layout.specs.declared.header.Header.{Header}
 use Rattle.house_file.proofs.DecodeLaws.{Upto, upto-start, upto-refused, upto-next, upto-end, upto-kinds, stopped-of, passed-of, refused-not}
 use Rattle.house_file.proofs.decode.read_chains.Statement.{statement}
 use Rattle.house_file.proofs.decode.read_chains.Tie as tie

@@ -10,13 +10,13 @@ use lib.ListN.{length}
 use Rattle.rebac.specs.Matter.{Pair, pair}
 use Rattle.rebac.specs.Verdict.{judge}
 use Rattle.rebac.specs.NextWord.{nextWord}
-use Rattle.paths.specs.Word.{symbolsIn}
-use Rattle.paths.proofs.SearchLaws.{symbols-length}
-use Rattle.paths.proofs.NextLaws.{next-not, next-some}
-use Rattle.rules.specs.ListBytes.{encodeCount, encodeTerm}
-use Rattle.rules.specs.Writing.{put}
-use Rattle.rules.proofs.RoundTrip.{count-size}
-use Rattle.rules.proofs.PutLaws.{put-length, put-over}
+use Rattle.search.specs.Word.{symbolsIn}
+use Rattle.search.proofs.SearchLaws.{symbols-length}
+use Rattle.words.proofs.NextLaws.{next-not, next-some}
+use Rattle.rule_bytes.specs.ListBytes.{encodeCount, encodeTerm}
+use Rattle.rule_bytes.specs.Writing.{put}
+use Rattle.rule_bytes.proofs.RoundTrip.{count-size}
+use Rattle.rule_bytes.proofs.PutLaws.{put-length, put-over}
 use Rattle.mining.specs.Building.{problemIn, firstBytes, termBytes}
 use Rattle.mining.proofs.FirstLaws.{no-words, first-none, first-full, first-bytes, first-size, first-part, term-least, built-over}
 use Rattle.mining.proofs.build.build_term.Statement.{statement}

@@ -13,19 +13,21 @@ use Rattle.rebac.specs.Paths.{has}
 use Rattle.rebac.specs.Verdict.{wordsOf}
 use Rattle.rebac.specs.Mining.{lacks}
 use Rattle.rebac.specs.Existence.{plainTerm}
-use Rattle.paths.specs.declared.word.Word.{Word}
-use Rattle.paths.specs.Word.{symbolsIn}
-use Rattle.paths.specs.Ask.{tableGraph}
-use Rattle.paths.specs.Next.{NextAs}
-use Rattle.paths.proofs.SearchLaws.{symbols-length}
-use Rattle.paths.proofs.NextLaws.{next-not, next-some}
-use Rattle.paths.proofs.CallLaws.{pair-of, query-in}
-use Rattle.rules.specs.Reading.{TermAt, wordOf}
-use Rattle.rules.specs.ListBytes.{encodeTerm}
-use Rattle.rules.specs.Writing.{put}
+use Rattle.search.specs.declared.word.Word.{Word}
+use Rattle.search.specs.Word.{symbolsIn}
+use Rattle.search.specs.Ask.{tableGraph}
+use Rattle.words.specs.Next.{NextAs}
+use Rattle.search.proofs.SearchLaws.{symbols-length}
+use Rattle.words.proofs.NextLaws.{next-not, next-some}
+use Rattle.graph.proofs.LegalLaws.{pair-of}
+use Rattle.paths.proofs.CallLaws.{query-in}
+use Rattle.rule_bytes.specs.Reading.{TermAt}
+use Rattle.search.specs.Word.{wordOf}
+use Rattle.rule_bytes.specs.ListBytes.{encodeTerm}
+use Rattle.rule_bytes.specs.Writing.{put}
 use Rattle.lists.proofs.OrderLaws.{length-map}
-use Rattle.rules.specs.declared.read.WordRead.{WordRead}
-use Rattle.rules.proofs.PlaceLaws.{word-fits, word-value, word-short, word-symbols}
+use Rattle.rule_bytes.specs.declared.read.WordRead.{WordRead}
+use Rattle.rule_bytes.proofs.PlaceLaws.{word-fits, word-value, word-short, word-symbols}
 use Rattle.rules.proofs.MeetLaws.{TermSoFar, meet-start, meet-entry, meet-next, meet-end}
 use Rattle.lists.proofs.Cases.{and-left}
 use Rattle.mining.specs.Building.{problemIn, encodedTerm, termBytes}

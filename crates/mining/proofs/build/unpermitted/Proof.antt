@@ -3,7 +3,7 @@ use mathlib.Core.Path.{refl, sym, ap, _∙_}
 use mathlib.Core.Bool.{not}
 use native.Mathlib.Omega.{arith}
 use borrow.Author.Needs.{needs}
-use Rattle.paths.proofs.CallLaws.{pair-of}
+use Rattle.graph.proofs.LegalLaws.{pair-of}
 use Rattle.mining.proofs.build.unpermitted.Statement.{statement}
 use Rattle.mining.proofs.build.unpermitted.Tie as tie
 

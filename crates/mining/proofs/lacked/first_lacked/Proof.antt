@@ -4,8 +4,8 @@ use borrow.Author.Tests.{not-true, not-false}
 use Rattle.rebac.specs.Matter.{Matter, pair}
 use Rattle.rebac.specs.NextWord.{nextWord}
 use Rattle.graph.specs.Archive.{Shows}
-use Rattle.paths.specs.Word.{symbolsIn, Short}
-use Rattle.paths.specs.Next.{NextAs}
+use Rattle.search.specs.Word.{symbolsIn, Short}
+use Rattle.words.specs.Next.{NextAs}
 use Rattle.paths.proofs.CallLaws.{query-in, next-shown}
 use Rattle.mining.proofs.LackedLaws.{Passed, leftIn, in-hand, passed-start, passed-end, passed-here, passed-again, left-falls, longest-in, in-hand-short}
 use Rattle.mining.proofs.lacked.first_lacked.Statement.{statement}

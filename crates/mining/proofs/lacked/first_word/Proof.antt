@@ -2,7 +2,7 @@
 use mathlib.Core.Path.{refl}
 use native.Mathlib.Omega.{arith}
 use lib.ListN.{replicate}
-use Rattle.paths.specs.Word.{Short}
+use Rattle.search.specs.Word.{Short}
 use Rattle.paths.proofs.CallLaws.{query-in, next-shown}
 use Rattle.mining.proofs.LackedLaws.{longest-in}
 use Rattle.mining.proofs.lacked.first_word.Statement.{statement}

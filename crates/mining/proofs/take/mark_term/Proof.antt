@@ -5,8 +5,8 @@ use Prim.Native.Nat.{ℕ, _-_, _*_, _≤_}
 use native.Mathlib.Omega.{arith}
 use borrow.Author.Needs.{needs}
 use borrow.Author.Tests.{not-true, not-false}
-use Rattle.paths.proofs.CallLaws.{pair-of}
-use Rattle.rules.specs.Reading.{TermAt}
+use Rattle.graph.proofs.LegalLaws.{pair-of}
+use Rattle.rule_bytes.specs.Reading.{TermAt}
 use Rattle.rules.specs.Permit.{meetsTerm}
 use Rattle.mining.proofs.MarkLaws.{MarkedTo, mark-start, mark-end, mark-pass, mark-again, mark-here}
 use Rattle.mining.proofs.take.mark_term.Statement.{statement}

@@ -7,7 +7,7 @@ use lib.ListN.{length, drop}
 use Rattle.rebac.specs.Verdict.{judge}
 use Rattle.rebac.specs.Mining.{termOf}
 use Rattle.rebac.specs.Existence.{plainTerm}
-use Rattle.rules.specs.Reading.{TermAt}
+use Rattle.rule_bytes.specs.Reading.{TermAt}
 use Rattle.mining.specs.Pairs.{pairAt}
 use Rattle.mining.specs.Building.{problemIn, termBytes}
 use Rattle.mining.proofs.ArchiveLaws.{few-parties}

@@ -6,10 +6,10 @@ use native.Mathlib.Omega.{arith}
 use borrow.Author.Needs.{needs}
 use lib.ListN.{length}
 use lib.Seq.{length-take-le}
-use Rattle.paths.specs.Word.{symbolsIn}
-use Rattle.rules.specs.ListBytes.{encodeCount, encodeWord, encodeTerm}
-use Rattle.rules.specs.Writing.{put}
-use Rattle.rules.proofs.RoundTrip.{word-size}
+use Rattle.search.specs.Word.{symbolsIn}
+use Rattle.rule_bytes.specs.ListBytes.{encodeCount, encodeWord, encodeTerm}
+use Rattle.rule_bytes.specs.Writing.{put}
+use Rattle.rule_bytes.proofs.RoundTrip.{word-size}
 use Rattle.mining.proofs.TermLaws.{term-more}
 use Rattle.mining.proofs.term.add_word.Statement.{statement}
 use Rattle.mining.proofs.term.add_word.Tie as tie

@@ -8,8 +8,8 @@ use lib.ListN.{length, drop, getD}
 use lib.Seq.{getD-take, drop-length}
 use Rattle.lists.specs.Lists.{allOf}
 use Rattle.graph.specs.Legal.{legalSymbol}
-use Rattle.paths.specs.Word.{symbolsIn}
-use Rattle.paths.proofs.SearchLaws.{symbols-length}
+use Rattle.search.specs.Word.{symbolsIn}
+use Rattle.search.proofs.SearchLaws.{symbols-length}
 use Rattle.paths.proofs.CallLaws.{all-front, all-stop}
 use Rattle.paths.proofs.call.legal_word.Statement.{statement}
 use Rattle.paths.proofs.call.legal_word.Tie as tie

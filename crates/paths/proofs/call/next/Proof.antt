@@ -1,7 +1,7 @@
 -- The file's refusals come first; an accepted file stands for its matter.
 use mathlib.Core.Path.{_≡_, refl, sym, _∙_}
 use Rattle.house_file.specs.Check.{checkOf}
-use Rattle.house_file.specs.declared.reply.Check.the-variants.{Accepted}
+use Rattle.house_layout.specs.declared.reply.Check.the-variants.{Accepted}
 use Rattle.graph.specs.Archive.{matterOf, Shows}
 use Rattle.paths.specs.Calls.{nextCall}
 use borrow.Author.Needs.{needs}

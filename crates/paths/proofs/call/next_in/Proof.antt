@@ -7,13 +7,13 @@ use lib.ListN.{length}
 use Rattle.rebac.specs.Matter.{Matter, pair}
 use Rattle.graph.specs.Archive.{Shows}
 use Rattle.graph.specs.Legal.{isPair}
-use Rattle.paths.specs.Word.{symbolsIn, Short}
+use Rattle.search.specs.Word.{symbolsIn, Short}
 use Rattle.paths.specs.Calls.{found, legalWord}
 use Rattle.rebac.specs.NextWord.{nextWord}
-use Rattle.paths.specs.Next.{NextAs}
+use Rattle.words.specs.Next.{NextAs}
 use Rattle.paths.specs.declared.call.Reply.the-variants.{Wrote}
-use Rattle.paths.proofs.SearchLaws.{symbols-length}
-use Rattle.paths.proofs.NextLaws.{next-not, next-some}
+use Rattle.search.proofs.SearchLaws.{symbols-length}
+use Rattle.words.proofs.NextLaws.{next-not, next-some}
 use Rattle.paths.proofs.CallLaws.{query-of, next-shown, shown-pair, shown-legal, legal-short, legal-length, next-pair, next-word-bad, next-short, next-answer, copied}
 use borrow.Author.Needs.{needs}
 use Rattle.paths.proofs.call.next_in.Statement.{statement}

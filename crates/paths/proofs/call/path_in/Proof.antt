@@ -9,11 +9,12 @@ use lib.ListN.{length, take, set}
 use Rattle.rebac.specs.Matter.{Matter}
 use Rattle.graph.specs.Archive.{Shows}
 use Rattle.graph.specs.Legal.{isPair}
-use Rattle.paths.specs.Word.{Short}
+use Rattle.search.specs.Word.{Short}
 use Rattle.paths.specs.Calls.{found, legalWord}
 use Rattle.paths.specs.declared.call.Reply.the-variants.{Wrote}
 use lib.Count.{ones}
-use Rattle.paths.proofs.CallLaws.{query-of, pair-of, shown-pair, shown-legal, legal-short, path-pair, path-word, path-empty, path-short, path-answer, PathFound, path-found, path-not, copied}
+use Rattle.graph.proofs.LegalLaws.{pair-of}
+use Rattle.paths.proofs.CallLaws.{query-of, shown-pair, shown-legal, legal-short, path-pair, path-word, path-empty, path-short, path-answer, PathFound, path-found, path-not, copied}
 use lib.ListN.{length-set}
 use lib.Seq.{length-take-le}
 use borrow.Author.Needs.{needs}

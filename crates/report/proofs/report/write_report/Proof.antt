@@ -1,29 +1,34 @@
--- The verdict's line, then nothing or the list's part; what is written is inside its slice.
-use mathlib.Core.Path.{sym, ap, _∙_, subst}
-use mathlib.Core.List.{List}
-use Prim.Native.Nat.{ℕ}
+-- The verdict's line, then nothing, or the list's part in the tail lent from the line's end on; the tail is as long as list_part asks.
+use mathlib.Core.Path.{_≡_, sym, ap, _∙_}
+use mathlib.Core.List.{[]}
+use Prim.Native.Nat.{_+_, _-_, _≤_}
 use native.Mathlib.Omega.{arith}
 use lib.ListN.{length}
+use borrow.Rule.Slice.PartMut.{putMid, mid-len}
 use Rattle.graph.specs.Archive.{matterOf}
-use Rattle.conversion.specs.Calls.{verdictCall}
 use Rattle.conversion.specs.declared.verdict.VerdictReply.{VerdictReply}
-use Rattle.report.specs.Report.{Wrote, verdictLine, listPart}
-use Rattle.report.proofs.ReportLaws.{line-fits, wrote-inside, wrote-nothing}
+use Rattle.report.specs.Report.{Wrote, Inside, verdictLine, listPart, fileText}
+use Rattle.report.proofs.LineLaws.{wrote-length}
+use Rattle.report.proofs.ReportLaws.{line-fits, wrote-tail, line-alone, line-then-list}
 use borrow.Author.Needs.{needs}
 use Rattle.report.proofs.report.write_report.Statement.{statement}
 use Rattle.report.proofs.report.write_report.Tie as tie
-
-line : (c : tie.After-first-line) → Wrote (c .before .before .before .before .before .before .args .line .now) 0 (verdictLine (verdictCall (c .before .before .before .before .before .before .args .file .now))) (c .first-line .last .1 .0) (c .first-line .result)
-line c =
-    subst (λ (v : VerdictReply). Wrote (c .before .before .before .before .before .before .args .line .now) 0 (verdictLine v) (c .first-line .last .1 .0) (c .first-line .result)) (c .before .before .verdict-call .ensures) (c .first-line .ensures)
 
 verdict-call-requires : tie.Need-verdict-call-requires
 verdict-call-requires c κs = search needs
 
 first-line-requires : tie.Need-first-line-requires
 first-line-requires c κs =
+    let s = c .before .before .before .before in
+    omega (arith, s .pre, line-fits (s .args .file .now), ap (λ (v : VerdictReply). length (verdictLine v)) (c .before .verdict-call .ensures))
+
+-- the line has at most 64 bytes, and the text's length is kept
+room : (c : tie.After-first-line) → (c .first-line .result ≤ 64) × (length (c .first-line .last .1 .0) ≡ length (c .before .before .before .before .before .args .text .now))
+room c =
     let s = c .before .before .before .before .before in
-    omega (arith, s .pre .0, line-fits (s .args .file .now), ap (λ (v : VerdictReply). length (verdictLine v)) (c .before .verdict-call .ensures))
+    let l = line-fits (s .args .file .now) in
+    let e = ap (λ (v : VerdictReply). length (verdictLine v)) (c .before .before .verdict-call .ensures) in
+    (omega (arith, l, e, c .first-line .ensures .place), wrote-length (c .first-line .ensures) (omega (arith, s .pre, l, e)))
 
 enum-known-v : tie.Need-enum-known-v
 enum-known-v c = search needs
@@ -31,9 +36,44 @@ enum-known-v c = search needs
 enum-known-v-2 : tie.Need-enum-known-v-2
 enum-known-v-2 c = search needs
 
+sub-list-part : tie.Need-sub-list-part
+sub-list-part c = let b = c .before .before .before .before .before in let r = room b in omega (arith, r .0, r .1, b .before .before .before .before .before .pre)
+
+part-list-part-start : tie.Need-part-list-part-start
+part-list-part-start c = let b = c .before .before .before .before .before in let r = room b in omega (arith, r .0, r .1, b .before .before .before .before .before .pre)
+
+part-list-part-end : tie.Need-part-list-part-end
+part-list-part-end c = search needs
+
 list-part-requires : tie.Need-list-part-requires
 list-part-requires c κs =
-    ((c .before .before .v2 .given .0 .0, sym (c .before .before .before .before .before .before .before .before .verdict-call .ensures) ∙ c .before .before .v2 .given .1), omega (arith, c .before .before .before .before .before .before .before .before .before .before .before .before .pre .1))
+    let b = c .before .before .before .before .before .before in
+    let r = room b in
+    let out = b .first-line .last .1 .0 in
+    let convertible = c .before .before .v2 .given in (
+      (convertible .0 .0, sym (b .before .before .verdict-call .ensures) ∙ convertible .1),
+      omega (arith, r .0, r .1, b .before .before .before .before .before .pre, mid-len (b .first-line .result) (length out) out (omega arith)),
+    )
+
+-- the line and the list's part behind it
+whole : (c : tie.After-slice-known3) → (
+    let b = c .before .before .before .before .before .before .before .before .before in
+    let args = b .before .before .before .before .before .args in
+    let out = b .first-line .last .1 .0 in
+    let end = b .first-line .result in
+    let part = c .before .before .list-part in
+    let new = putMid end (length out - end) out (part .last .1 .0) in
+    Wrote (args .text .now) 0 (fileText (args .file .now)) new (end + part .result) × Inside (end + part .result) new)
+whole c =
+    let b = c .before .before .before .before .before .before .before .before .before in
+    let s = b .before .before .before .before .before in
+    let e = b .before .before .verdict-call .ensures in
+    let r = room b in
+    let p = wrote-tail (b .first-line .last .1 .0) (b .first-line .result) (omega (arith, r .0, r .1, s .pre)) (c .before .before .list-part .ensures) in
+    line-then-list (s .args .file .now) (sym e) (b .first-line .ensures) (rw e p)
+
+add-result : tie.Need-add-result
+add-result c = omega (arith, whole c .1 .0)
 
 enum-known-v-3 : tie.Need-enum-known-v-3
 enum-known-v-3 c = search needs
@@ -41,50 +81,37 @@ enum-known-v-3 c = search needs
 enum-known-v-4 : tie.Need-enum-known-v-4
 enum-known-v-4 c = search needs
 
+-- the line where there is no list
+alone : (c : tie.After-first-line) → (
+    let args = c .before .before .before .before .before .args in
+    let new = c .first-line .last .1 .0 in
+    let end = c .first-line .result in
+    listPart (matterOf (args .file .now)) (c .before .before .verdict-call .result) ≡ [] → Wrote (args .text .now) 0 (fileText (args .file .now)) new end × Inside end new)
+alone c n = line-alone (c .before .before .before .before .before .args .file .now) (sym (c .before .before .verdict-call .ensures)) n (c .first-line .ensures)
+
 same-length : tie.Need-same-length
 same-length c = search needs
 
 returns : tie.Need-returns
-returns c =
-    let s = c .before .before .before .before .before .before .before .before .before .before .before in
-    let l = line (c .before .before .before .before .before) in
-    let e = ap (listPart (matterOf (s .args .file .now))) (sym (c .before .before .before .before .before .before .before .verdict-call .ensures) ∙ c .before .v .given .1) in
-    let p = subst (λ (x : List ℕ). Wrote (s .args .text .now) 0 x (s .args .text .now) 0) (sym e) (wrote-nothing (s .args .text .now)) in
-    ((l, p), (wrote-inside l, wrote-inside p))
+returns c = alone (c .before .before .before .before .before) (ap (listPart _) (c .before .v .given .1))
 
 same-length-2 : tie.Need-same-length-2
 same-length-2 c = search needs
 
+returns-2 : tie.Need-returns-2
+returns-2 c = whole c
+
 same-length-3 : tie.Need-same-length-3
 same-length-3 c = search needs
 
-returns-2 : tie.Need-returns-2
-returns-2 c =
-    let l = line (c .before .before .before .before .before .before .before .before .before) in
-    let p = c .before .before .list-part .ensures in
-    ((l, p), (wrote-inside l, wrote-inside p))
+returns-3 : tie.Need-returns-3
+returns-3 c = alone (c .before .before .before .before .before) (ap (listPart _) (c .before .v3 .given .1))
 
 same-length-4 : tie.Need-same-length-4
 same-length-4 c = search needs
 
-returns-3 : tie.Need-returns-3
-returns-3 c =
-    let s = c .before .before .before .before .before .before .before .before .before .before .before in
-    let l = line (c .before .before .before .before .before) in
-    let e = ap (listPart (matterOf (s .args .file .now))) (sym (c .before .before .before .before .before .before .before .verdict-call .ensures) ∙ c .before .v3 .given .1) in
-    let p = subst (λ (x : List ℕ). Wrote (s .args .text .now) 0 x (s .args .text .now) 0) (sym e) (wrote-nothing (s .args .text .now)) in
-    ((l, p), (wrote-inside l, wrote-inside p))
-
-same-length-5 : tie.Need-same-length-5
-same-length-5 c = search needs
-
 returns-4 : tie.Need-returns-4
-returns-4 c =
-    let s = c .before .before .before .before .before .before .before .before .before .before .before in
-    let l = line (c .before .before .before .before .before) in
-    let e = ap (listPart (matterOf (s .args .file .now))) (sym (c .before .before .before .before .before .before .before .verdict-call .ensures) ∙ c .before .v4 .given .1) in
-    let p = subst (λ (x : List ℕ). Wrote (s .args .text .now) 0 x (s .args .text .now) 0) (sym e) (wrote-nothing (s .args .text .now)) in
-    ((l, p), (wrote-inside l, wrote-inside p))
+returns-4 c = alone (c .before .before .before .before .before) (ap (listPart _) (c .before .v4 .given .1))
 
 pub write-report-spec : {M : Type 1} → statement M
 write-report-spec =
@@ -94,15 +121,18 @@ write-report-spec =
     first-line-requires
     enum-known-v
     enum-known-v-2
+    sub-list-part
+    part-list-part-start
+    part-list-part-end
     list-part-requires
+    add-result
     enum-known-v-3
     enum-known-v-4
     same-length
     returns
     same-length-2
-    same-length-3
     returns-2
-    same-length-4
+    same-length-3
     returns-3
-    same-length-5
+    same-length-4
     returns-4)

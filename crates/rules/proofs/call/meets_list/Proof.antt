@@ -3,9 +3,9 @@ use mathlib.Core.Path.{sym, _∙_}
 use mathlib.Core.List.{List}
 use Prim.Native.Nat.{ℕ}
 use native.Mathlib.Omega.{arith}
-use Rattle.rules.specs.Reading.{IsList}
+use Rattle.rule_bytes.specs.Reading.{IsList}
 use Rattle.rules.specs.Permit.{meetsTerm, meetsList}
-use Rattle.rules.proofs.PlaceLaws.{list-room}
+use Rattle.rule_bytes.proofs.PlaceLaws.{list-room}
 use Rattle.rules.proofs.MeetLaws.{ListSoFar, list-start, list-term, list-next, list-yes, list-no}
 use borrow.Author.Needs.{needs}
 use Rattle.rules.proofs.call.meets_list.Statement.{statement}

@@ -1,5 +1,5 @@
 -- Words read so far and words ahead (MeetLaws).
-use Rattle.paths.specs.declared.word.Word.{Word}
+use Rattle.search.specs.declared.word.Word.{Word}
 use mathlib.Core.Path.{_≡_, sym, ap, _∙_}
 use mathlib.Core.Bool.{Bool, _&&_}
 use mathlib.Core.List.{List}
@@ -8,12 +8,13 @@ use Prim.Native.Nat.{ℕ}
 use native.Mathlib.Omega.{arith}
 use Rattle.rebac.specs.Matter.{pair}
 use Rattle.rebac.specs.Paths.{has}
-use Rattle.paths.specs.Ask.{tableGraph}
-use Rattle.paths.specs.Word.{symbolsIn}
-use Rattle.rules.specs.Reading.{TermAt, wordOf}
+use Rattle.search.specs.Ask.{tableGraph}
+use Rattle.search.specs.Word.{symbolsIn}
+use Rattle.rule_bytes.specs.Reading.{TermAt}
+use Rattle.search.specs.Word.{wordOf}
 use Rattle.rules.specs.Permit.{meetsTerm}
-use Rattle.rules.specs.declared.read.WordRead.{WordRead}
-use Rattle.rules.proofs.PlaceLaws.{term-room, word-fits, word-value, word-short, word-symbols}
+use Rattle.rule_bytes.specs.declared.read.WordRead.{WordRead}
+use Rattle.rule_bytes.proofs.PlaceLaws.{term-room, word-fits, word-value, word-short, word-symbols}
 use Rattle.rules.proofs.MeetLaws.{TermSoFar, meet-start, meet-entry, meet-next, meet-end}
 use borrow.Author.Needs.{needs}
 use Rattle.rules.proofs.call.meets_term.Statement.{statement}

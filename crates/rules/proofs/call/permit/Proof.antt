@@ -1,7 +1,7 @@
 -- The file, then the answer for its matter.
 use mathlib.Core.Path.{_≡_, sym, _∙_}
 use Rattle.house_file.specs.Check.{checkOf}
-use Rattle.house_file.specs.declared.reply.Check.the-variants.{Accepted}
+use Rattle.house_layout.specs.declared.reply.Check.the-variants.{Accepted}
 use Rattle.graph.specs.Archive.{matterOf}
 use Rattle.rules.specs.Permit.{permitReply}
 use borrow.Author.Needs.{needs}

@@ -1,5 +1,5 @@
 -- Each step has its law (PermitLaws).
-use Rattle.rules.specs.ListBytes.{Bytes}
+use Rattle.rule_bytes.specs.ListBytes.{Bytes}
 use mathlib.Core.Path.{_≡_, sym, ap, _∙_}
 use mathlib.Core.Bool.{true}
 use native.Mathlib.Omega.{arith}
@@ -7,7 +7,7 @@ use borrow.Author.Tests.{not-true, not-false}
 use Rattle.rules.specs.Permit.{yesOrNo}
 use Rattle.graph.specs.Legal.{isPair}
 use Rattle.rules.proofs.PermitLaws.{no-pair, no-list, checked-list, the-answer}
-use Rattle.paths.proofs.CallLaws.{pair-of}
+use Rattle.graph.proofs.LegalLaws.{pair-of}
 use borrow.Author.Needs.{needs}
 use Rattle.rules.proofs.call.permit_in.Statement.{statement}
 use Rattle.rules.proofs.call.permit_in.Tie as tie

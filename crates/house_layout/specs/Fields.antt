@@ -1,0 +1,42 @@
+-- Which header fields and which record a file may have: the tests of 01's order of checks that need no chain.
+use Prim.Native.Nat.{ℕ}
+use mathlib.Core.Bool.{Bool, not, _&&_, _||_}
+use mathlib.Core.List.{List}
+use lib.Dec.{eqb, ltb, leb}
+use Rattle.house_layout.specs.Layout.{byteAt, partiesOf, labelsOf, languageOf, longestOf, recordsOf, permitKind}
+use Rattle.house_layout.specs.Reply.{refuse}
+use Rattle.house_layout.specs.declared.reply.Refusal.the-variants.{Again, Target, Kind, Repeat}
+use Rattle.house_layout.specs.declared.reply.Check.{Check}
+use Rattle.house_layout.specs.declared.reply.Check.the-variants.{Accepted}
+use Rattle.house_layout.specs.declared.record.Record.{Record}
+
+abbrev pub within : ℕ → ℕ → ℕ → Bool
+within low high x = leb low x && leb x high
+
+-- every header field is in its range
+unfoldable pub fieldsInRange : List ℕ → Bool
+fieldsInRange f =
+    eqb (byteAt f 0) 1
+    && (within 1 32 (partiesOf f)
+    && (within 1 8 (labelsOf f)
+    && (within 0 3 (languageOf f)
+    && (within 1 31 (longestOf f)
+    && (eqb (byteAt f 5) 0
+    && leb (recordsOf f) 8928)))))
+
+-- a target is a party other than the chain's own
+abbrev pub legalTarget : ℕ → ℕ → ℕ → Bool
+legalTarget n u t = ltb t n && not (eqb t u)
+
+-- a kind byte is a label below L, or that of a permit
+abbrev pub legalKind : ℕ → ℕ → Bool
+legalKind l k = ltb k l || eqb k permitKind
+
+-- one record of party u's chain; `again`: it was reached before; `repeat`: an earlier record of the chain has its target and kind
+unfoldable pub judgeRecord : ℕ → ℕ → ℕ → Record → Bool → Bool → Check
+judgeRecord n l u r again repeat =
+    refuse again Again
+    (refuse (not (legalTarget n u (r .target))) Target
+    (refuse (not (legalKind l (r .kind))) Kind
+    (refuse repeat Repeat
+    Accepted)))

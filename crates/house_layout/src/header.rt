@@ -1,0 +1,71 @@
+// The header: its fields, their ranges, and the length that it says.
+ghost use mathlib.Core.Path.{_≡_};
+ghost use Prim.Native.Nat.{_+_, _≤_, _<_};
+ghost use lib.ListN.{length};
+ghost use Rattle.house_layout.specs.Layout.{u16At, headerOf};
+ghost use Rattle.house_layout.specs.Fields.{within, fieldsInRange};
+
+pub struct Header {
+    pub parties: usize,
+    pub labels: usize,
+    pub language: usize,
+    pub longest: usize,
+    pub records: usize,
+}
+
+pub fn wide(x: u8) -> usize
+    ensures { λ r. ⌜ (r ≡ x) × (r < 256) ⌝ }
+{
+    x as usize
+}
+
+// The two-byte field at a place, low byte first.
+pub fn u16_at(s: &[u8], at: usize) -> usize
+    requires { ⌜ at + 1 < length (now s) ⌝ }
+    ensures { λ r. ⌜ (r ≡ u16At (now (s .entry)) at) × (r < 65536) ⌝ }
+{
+    wide(s[at]) + wide(s[at + 1]) * 256
+}
+
+// The header's numbers.
+pub fn read_header(file: &[u8]) -> Header
+    requires { ⌜ 8 ≤ length (now file) ⌝ }
+    ensures { λ r. ⌜ r ≡ headerOf (now (file .entry)) ⌝ }
+{
+    let parties = wide(file[1]);
+    let labels = wide(file[2]);
+    let language = wide(file[3]);
+    let longest = wide(file[4]);
+    let records = u16_at(file, 6);
+    Header {
+        parties,
+        labels,
+        language,
+        longest,
+        records,
+    }
+}
+
+fn in_range(low: usize, high: usize, x: usize) -> bool
+    ensures { λ r. ⌜ r ≡ within low high x ⌝ }
+{
+    if x < low {
+        return false;
+    }
+    x <= high
+}
+
+// Whether every header field is in its range.
+pub fn fields_in_range(file: &[u8], h: Header) -> bool
+    requires { ⌜ (8 ≤ length (now file)) × (h ≡ headerOf (now file)) ⌝ }
+    ensures { λ r. ⌜ r ≡ fieldsInRange (now (file .entry)) ⌝ }
+{
+    let edition = file[0] == 1;
+    let parties = in_range(1, 32, h.parties);
+    let labels = in_range(1, 8, h.labels);
+    let language = in_range(0, 3, h.language);
+    let longest = in_range(1, 31, h.longest);
+    let zero = file[5] == 0;
+    let records = h.records <= 8928;
+    edition & (parties & (labels & (language & (longest & (zero & records)))))
+}

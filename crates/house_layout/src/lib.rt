@@ -1,0 +1,17 @@
+// A house file's parts: its header, one record, and what a check answers. Only this crate and house_file read file bytes.
+mod header;
+mod record;
+mod reply;
+
+pub use header::Header;
+pub use header::fields_in_range;
+pub use header::read_header;
+pub use header::u16_at;
+pub use header::wide;
+pub use record::Record;
+pub use record::bit_of;
+pub use record::check_record;
+pub use record::read_record;
+pub use reply::Check;
+pub use reply::Refusal;
+pub use reply::number;

@@ -1,0 +1,28 @@
+-- Next-word called again and again, as a host does that goes through the words of a pair (demand 2).
+use Prim.Native.Nat.{ℕ, zero, suc}
+use mathlib.Core.List.{List, [], _∷_}
+use lib.ListN.{length, take}
+use Rattle.search.specs.declared.word.Word.{Word}
+use Rattle.paths.specs.Calls.{Answer, replyOf, outputOf, nextCall}
+use Rattle.paths.specs.declared.call.Reply.{Reply}
+use Rattle.paths.specs.declared.call.Reply.the-variants.{Refused, Nothing, Wrote}
+
+-- the words handed out, in order, and the reply that ended the calls
+pub record HandedOut : Type 0 where
+  pub words : List (List ℕ)
+  pub last : Reply
+
+-- a reply, and the output as the call left it: the word written is handed out and given to the next call; any other reply ends the calls
+abbrev pub onward : Reply → List ℕ → (List ℕ → HandedOut) → HandedOut
+onward (Refused x) output next = record { words = []; last = Refused x }
+onward Nothing output next = record { words = []; last = Nothing }
+onward (Wrote k) output next = record { words = take k output ∷ next (take k output) .words; last = next (take k output) .last }
+
+-- up to k calls for the pair (a, b), the first given the word v, each other what the call before wrote, all lent the same output; `value` makes a word value of symbols
+unfoldable pub handOut : (List ℕ → Word) → List ℕ → ℕ → ℕ → ℕ → List ℕ → List ℕ → HandedOut
+handOut value f a b zero v output = record { words = []; last = Wrote 0 }
+handOut value f a b (suc k) v output =
+    onward
+    (replyOf (nextCall f a b (value v) (length output)))
+    (outputOf (nextCall f a b (value v) (length output)) output)
+    (λ w. handOut value f a b k w (outputOf (nextCall f a b (value v) (length output)) output))

@@ -1,0 +1,162 @@
+-- What stands at a place of a checked list: the next entry is the first of those ahead. Assumes nothing.
+use mathlib.Core.Path.{_≡_, refl, sym, ap, _∙_}
+use mathlib.Core.Bool.{true}
+use mathlib.Core.List.{List, [], _∷_, _++_, append-assoc, append-nil, List·Memᴰ, List·Memᴰ·head, List·Memᴰ·tail}
+use mathlib.Core.Option.{Option, none, some}
+use mathlib.Core.Logic.{by-cases}
+use Prim.Native.Nat.{ℕ, zero, suc, _+_, _/_, _-_, _≤_, _<_}
+use native.Mathlib.Decide.{decLt}
+use native.Mathlib.Omega.{arith}
+use lib.ListN.{length, take, drop, getD, replicate, length-append, length-drop, List·getD-append, length-replicate}
+use lib.Seq.{take-append-seam, drop-append-seam, getD-append-add, getD-drop}
+use lib.Dec.{leb, ltb}
+use borrow.Author.Tests.{leb-true, ltb-true}
+use Rattle.lists.specs.Lists.{allOf, flatMap}
+use Rattle.lists.proofs.Cases.{and-left, and-right}
+use Rattle.house_layout.specs.Layout.{u16At}
+use Rattle.search.specs.Word.{symbolsIn, Short}
+use Rattle.rule_bytes.specs.ListBytes.{encodeCount, encodeWord, encodeTerm, encodeList, Parsed, parsed, decodeCount, legalWord, LegalList}
+use Rattle.graph.specs.Legal.{legalSymbol}
+use Rattle.search.specs.Word.{wordOf}
+use Rattle.rule_bytes.specs.Reading.{WordFits, wordAt, FitWord, FitTerm, FitList, TermAt, IsList}
+use Rattle.rule_bytes.proofs.RoundTrip.{count-encode, count-size}
+use Rattle.rule_bytes.proofs.ReadingLaws.{drop-on, count-here}
+
+-- entries ahead of a place, and what follows them
+pub record Ahead {A : Type 0} (e : A → List ℕ) (P : A → Type 0) (b : List ℕ) (place left : ℕ) (xs : List A) (s : List ℕ) : Type 0 where
+  pub bytes : drop place b ≡ flatMap e xs ++ s
+  pub number : length xs ≡ left
+  pub fits : (x : A) → List·Memᴰ x xs → P x
+
+-- the first of them
+pub record Entry {A : Type 0} (e : A → List ℕ) (P : A → Type 0) (b : List ℕ) (place left : ℕ) (xs : List A) (s : List ℕ) : Type 0 where
+  pub first : A
+  pub rest : List A
+  pub split : xs ≡ first ∷ rest
+  pub bytes : drop place b ≡ e first ++ (flatMap e rest ++ s)
+  pub fits : P first
+  pub onward : (next : ℕ) → drop next b ≡ flatMap e rest ++ s → Ahead e P b next (left - 1) rest s
+
+module _ {A : Type 0} (e : A → List ℕ) (P : A → Type 0) (b : List ℕ) (place left : ℕ) where
+  pub entry : (xs : List A) (s : List ℕ) → 0 < left → Ahead e P b place left xs s → Entry e P b place left xs s
+  unfolding flatMap
+  entry [] s h a = absurd (omega (arith, a .number))
+  entry (x ∷ xs) s h a = record {
+    first = x;
+    rest = xs;
+    split = refl;
+    bytes = a .bytes ∙ append-assoc (e x) (flatMap e xs) s;
+    fits = a .fits x (List·Memᴰ·head refl);
+    onward = λ next k. record { bytes = k; number = omega (arith, a .number); fits = λ y m. a .fits y (List·Memᴰ·tail m) };
+  }
+
+  pub no-more : (xs : List A) (s : List ℕ) → left ≡ 0 → Ahead e P b place left xs s → (xs ≡ []) × (drop place b ≡ s)
+  unfolding flatMap
+  no-more [] s z a = (refl, a .bytes)
+  no-more (x ∷ xs) s z a = absurd (omega (arith, a .number))
+
+-- a word at a place
+module _ (b : List ℕ) (at : ℕ) (w s : List ℕ) (here : drop at b ≡ encodeWord w ++ s) where
+  word-byte : getD b at 0 ≡ length w
+  unfolding encodeWord
+  word-byte = let z : at + 0 ≡ at = omega arith in ap (λ (i : ℕ). getD b i 0) (sym z) ∙ sym (getD-drop at b 0 0) ∙ rw here
+
+  word-tail : drop (at + 1) b ≡ w ++ s
+  unfolding encodeWord
+  word-tail = sym (drop-on b at 1) ∙ rw here
+
+  pub word-room : at + 1 + length w ≤ length b
+  unfolding encodeWord
+  word-room = omega (arith, length-drop at b, ap length here, length-append w s)
+
+  pub word-value : wordAt b at .word ≡ wordOf w
+  word-value = let k : take (getD b at 0) (drop (at + 1) b) ≡ w = rw (word-byte, word-tail) (take-append-seam w s) in ap wordOf k
+
+  pub word-next : drop (wordAt b at .next) b ≡ s
+  word-next = rw word-byte (sym (drop-on b (at + 1) (length w)) ∙ rw word-tail (drop-append-seam w s))
+
+  pub word-ends : wordAt b at .next ≡ at + 1 + length w
+  word-ends = rw word-byte
+
+  pub word-fits : FitWord w → WordFits b at
+  word-fits f = record { place = omega (arith, word-room); small = omega (arith, word-byte, f .len); end = omega (arith, word-byte, word-room) }
+
+-- the word value of a word that fits
+zero-after : (k i : ℕ) → _≡_ {A = ℕ} (getD (replicate k 0) i 0) 0
+zero-after zero i = refl
+zero-after (suc k) zero = refl
+zero-after (suc k) (suc i) = zero-after k i
+
+pub word-symbols : (w : List ℕ) → symbolsIn (wordOf w) ≡ w
+word-symbols w = take-append-seam w (replicate (31 - length w) 0)
+
+pub word-short : (w : List ℕ) → FitWord w → Short (wordOf w)
+word-short w f = record {
+  len = f .len;
+  full = length-append w (replicate (31 - length w) 0) ∙ omega (arith, length-replicate {A = ℕ} (31 - length w) 0, f .len);
+  symbols = λ i short. by-cases (decLt i (length w))
+      (λ h. rw (List·getD-append w (replicate (31 - length w) 0) 0 i h) (f .symbols i))
+      (λ h.
+      let z : i ≡ length w + (i - length w) = omega (arith, h) in
+      let k : getD (w ++ replicate (31 - length w) 0) (length w + (i - length w)) 0 ≡ 0 = getD-append-add w (replicate (31 - length w) 0) (i - length w) 0 ∙ zero-after (31 - length w) (i - length w) in
+      rw z (omega (arith, k)));
+}
+
+-- a count at a place
+abbrev countIn : Option (Parsed ℕ) → ℕ
+countIn none = 0
+countIn (some r) = r .value
+
+abbrev restIn : Option (Parsed ℕ) → List ℕ
+restIn none = []
+restIn (some r) = r .rest
+
+module _ (b : List ℕ) (at n : ℕ) (s : List ℕ) (here : drop at b ≡ encodeCount n ++ s) where
+  pub count-room : at + 1 < length b
+  count-room = omega (arith, length-drop at b, ap length here, length-append (encodeCount n) s, count-size n)
+
+  count-both : parsed (u16At b at) (drop (at + 2) b) ≡ parsed n s
+  count-both = sym (count-here b at count-room) ∙ ap decodeCount here ∙ count-encode n s
+
+  pub count-value : u16At b at ≡ n
+  count-value = ap countIn count-both
+
+  pub count-next : drop (at + 2) b ≡ s
+  count-next = ap restIn count-both
+
+pub term-room : (b : List ℕ) (at : ℕ) (t : List (List ℕ)) (s : List ℕ) → TermAt b at t s → at + 1 < length b
+unfolding encodeTerm
+term-room b at t s h = count-room b at (length t) (flatMap encodeWord t ++ s) (h .bytes ∙ append-assoc (encodeCount (length t)) (flatMap encodeWord t) s)
+
+pub term-ahead : (b : List ℕ) (at : ℕ) (t : List (List ℕ)) (s : List ℕ) → TermAt b at t s → Ahead encodeWord FitWord b (at + 2) (u16At b at) t s
+unfolding encodeTerm
+term-ahead b at t s h =
+    let e = h .bytes ∙ append-assoc (encodeCount (length t)) (flatMap encodeWord t) s in
+    record { bytes = count-next b at (length t) (flatMap encodeWord t ++ s) e; number = sym (count-value b at (length t) (flatMap encodeWord t ++ s) e); fits = h .fits .words }
+
+pub list-room : (b : List ℕ) (l : List (List (List ℕ))) → IsList b l → 1 < length b
+unfolding encodeList
+list-room b l h = count-room b 0 (length l) (flatMap encodeTerm l) (h .bytes)
+
+pub list-ahead : (b : List ℕ) (l : List (List (List ℕ))) → IsList b l → Ahead encodeTerm FitTerm b 2 (u16At b 0) l []
+unfolding encodeList
+list-ahead b l h =
+    record { bytes = count-next b 0 (length l) (flatMap encodeTerm l) (h .bytes) ∙ sym (append-nil (flatMap encodeTerm l)); number = sym (count-value b 0 (length l) (flatMap encodeTerm l) (h .bytes)); fits = h .fits .terms }
+
+-- a legal list fits, by the limits of L and D
+module _ (labels language longest : ℕ) (few : labels ≤ 8) (short : longest ≤ 31) where
+  symbols-small : (w : List ℕ) → allOf (legalSymbol labels language) w ≡ true → (i : ℕ) → getD w i 0 < 32
+  unfolding allOf legalSymbol
+  symbols-small [] h i = omega arith
+  symbols-small (x ∷ w) h zero = let k : x / 4 < labels = ltb-true _ _ (and-left (ltb (x / 4) labels) _ (and-left (legalSymbol labels language x) _ h)) in omega arith
+  symbols-small (x ∷ w) h (suc i) = symbols-small w (and-right (legalSymbol labels language x) _ h) i
+
+  pub word-legal-fits : (w : List ℕ) → legalWord labels language longest w ≡ true → FitWord w
+  unfolding legalWord
+  word-legal-fits w h =
+      let k = and-right (leb 1 (length w)) _ h in
+      let l : length w ≤ longest = leb-true _ _ (and-left _ _ k) in
+      record { len = omega arith; symbols = symbols-small w (and-right (leb (length w) longest) _ k) }
+
+  pub list-legal-fits : (l : List (List (List ℕ))) → LegalList labels language longest l → FitList l
+  list-legal-fits l h = record { number = h .fits; terms = λ t m. let k = h .terms t m in record { number = k .fits; words = λ w n. word-legal-fits w (k .words w n) } }

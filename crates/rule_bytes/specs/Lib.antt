@@ -1,0 +1,3 @@
+pub mod ListBytes
+pub mod Reading
+pub mod Writing

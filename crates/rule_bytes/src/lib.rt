@@ -1,0 +1,10 @@
+// The bytes of rule lists: checked, read and written.
+mod check;
+mod read;
+mod write;
+
+pub use check::check_list;
+pub use read::WordRead;
+pub use read::read_word;
+pub use write::put_u16;
+pub use write::put_word;

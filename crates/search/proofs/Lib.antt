@@ -1,0 +1,4 @@
+pub mod SearchLaws
+pub mod WalkLaws
+pub mod AskLaws
+pub mod ValueLaws

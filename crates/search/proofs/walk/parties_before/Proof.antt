@@ -1,0 +1,95 @@
+-- Each party passed so far is in the mask, is visited or the target, or has no path onward (WalkLaws).
+use borrow.Author.Needs.{needs}
+use mathlib.Core.Path.{_≡_, _∙_}
+use mathlib.Core.Logic.{⊎-elim}
+use mathlib.Core.List.{List, _∷_}
+use Prim.Native.Nat.{_+_, _-_, _≤_}
+use native.Mathlib.Omega.{arith}
+use lib.ListN.{length}
+use Rattle.rebac.specs.Forms.{Place}
+use Rattle.lists.proofs.Cases.{both}
+use Rattle.masks.specs.Mask.{withBit}
+use Rattle.masks.proofs.BitLaws.{test-on}
+use Rattle.search.specs.Search.{placeAt, placesFrom}
+use Rattle.search.specs.Walk.{Covers}
+use Rattle.search.proofs.SearchLaws.{places-cons}
+use Rattle.search.proofs.WalkLaws.{within-with, no-step, covers-with, covers-without, target-lost}
+use Rattle.search.proofs.walk.parties_before.Statement.{statement}
+use Rattle.search.proofs.walk.parties_before.Tie as tie
+
+abbrev Inv-loop : tie.InvT-loop
+Inv-loop w fixed at n target visited mask g parties₀ v₀ parties v =
+    (v ≤ n) × Covers n g target (placesFrom w fixed at) visited parties v
+
+abbrev μ-loop : tie.MeasureT-loop
+μ-loop w fixed at n target visited mask g parties₀ v₀ parties v = n - v
+
+loop-holds : tie.Need-loop-holds Inv-loop μ-loop
+loop-holds c = (search needs, λ v h. absurd (omega arith))
+
+cast-c : tie.Need-cast-c Inv-loop μ-loop
+cast-c c = search needs
+
+shr-if2 : tie.Need-shr-if2 Inv-loop μ-loop
+shr-if2 c = search needs
+
+mul-steps : tie.Need-mul-steps Inv-loop μ-loop
+mul-steps c = search needs
+
+element-copy-out-steps : tie.Need-element-copy-out-steps Inv-loop μ-loop
+element-copy-out-steps c = search needs
+
+steps-requires : tie.Need-steps-requires Inv-loop μ-loop
+steps-requires c κs = search needs
+
+with-requires : tie.Need-with-requires Inv-loop μ-loop
+with-requires c κs = search needs
+
+add-v : tie.Need-add-v Inv-loop μ-loop
+add-v c = search needs
+
+loop-less : tie.Need-loop-less Inv-loop μ-loop
+loop-less c = search needs
+
+loop-again : tie.Need-loop-again Inv-loop μ-loop
+loop-again c =
+    let x = c .before .before .before in
+    let a = x .args in
+    let l = c .before .before .loop in
+    let n : length (a .w .symbols) ≡ 31 = search needs in
+    let q : placesFrom (a .w) (a .fixed) (a .at) ≡ placeAt (a .w) (a .fixed) (a .at) ∷ placesFrom (a .w) (a .fixed) (a .at + 1) =
+    places-cons (a .w) (a .fixed) (a .at) (x .pre .1 .0) (omega (arith, x .pre .0 .len)) in
+    let s : Place = placeAt (a .w) (a .fixed) (a .at) in
+    let ys : List Place = placesFrom (a .w) (a .fixed) (a .at + 1) in
+    let xs : List Place = placesFrom (a .w) (a .fixed) (a .at) in
+    let without = covers-without (a .n) (a .t1) (a .target) xs (a .visited) (l .parties) (l .v) (l .inv .1) in (
+      omega (arith, c .before .loop-test .taken),
+      ⊎-elim (λ y. rw (y .6 ∙ y .5 .ensures) (covers-with (a .n) (a .t1) (a .target) xs (a .visited) (l .parties) (l .v) (l .inv .1)))
+          (⊎-elim
+          (λ y. rw (y .5) (without (λ more p o. rw q (no-step (a .n) (a .t1) (a .target) ys (a .visited) (a .mask) (l .v) s (x .pre .1 .1 .1 .1) (y .3 .ensures (y .4 .left)) (withBit more (l .v)) (within-with (a .visited) more (l .v) p)))))
+          (⊎-elim
+          (λ y. rw (y .2) (without (λ more p o. both (p (l .v) (test-on (a .visited) (l .v) (y .1 .left))) o)))
+          (λ y. rw (y .1) (without (λ more p o. rw (y .0 .left, q) (target-lost (a .n) (a .t1) (a .target) s ys (x .pre .1 .1 .1 .0) more))))))
+          (c .if1 .came),
+    )
+
+returns : tie.Need-returns Inv-loop μ-loop
+returns c v h = c .before .loop .inv .1 v (omega (arith, c .loop-test .left))
+
+pub parties-before-spec : {M : Type 1} → statement M
+parties-before-spec =
+    tie.close
+    (tie.spec
+    Inv-loop
+    μ-loop
+    loop-holds
+    cast-c
+    shr-if2
+    mul-steps
+    element-copy-out-steps
+    steps-requires
+    with-requires
+    add-v
+    loop-less
+    loop-again
+    returns)

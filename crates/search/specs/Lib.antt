@@ -1,0 +1,4 @@
+pub mod Word
+pub mod Search
+pub mod Walk
+pub mod Ask

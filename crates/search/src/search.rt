@@ -1,0 +1,150 @@
+// Party search and candidate search call each other. The first `fixed` symbols of a word are fixed, and each later one is a floor.
+ghost use mathlib.Core.Path.{_≡_};
+ghost use mathlib.Core.Bool.{false, not, _&&_};
+ghost use mathlib.Core.List.{_∷_, []};
+ghost use mathlib.Core.Option.{some};
+ghost use Prim.Native.Nat.{_+_, _-_, _<_};
+ghost use Rattle.masks.specs.Mask.{testBit};
+ghost use Rattle.rebac.specs.Options.{given};
+ghost use Rattle.search.specs.Word.{Short};
+ghost use Rattle.search.specs.Search.{placeAt, placeOn, placesFrom, searchFrom, FoundAs, Asked};
+use crate::walk::walkable;
+use crate::word::Word;
+use masks::Table;
+
+// What a search found: whether there is a path, its parties as a mask, and its parties in order from place 0.
+// Where there is none, `tried` says how many parties the search entered, short of the last two places.
+pub struct Found {
+    pub found: bool,
+    pub visited: u32,
+    pub parties: [u8; 32],
+    pub tried: u32,
+}
+
+pub fn none(tried: u32) -> Found
+    ensures { λ r. ⌜ r .found ≡ false ⌝ }
+{
+    Found {
+        found: false,
+        visited: 0,
+        parties: [0u8; 32],
+        tried,
+    }
+}
+
+// Whether some symbol of the mask may stand at place `at`.
+pub fn allows(w: Word, fixed: usize, at: usize, mask: u32) -> bool
+    requires { ⌜ Short w × (at < w .len) ⌝ }
+    ensures { λ r. ⌜ r ≡ placeOn (placeAt w fixed at) mask ⌝ }
+{
+    let s = w.symbols[at];
+    if at < fixed {
+        return (mask >> s) & 1 == 1;
+    }
+    mask >> s != 0
+}
+
+// The last step, to the target itself.
+fn last_step(w: Word, fixed: usize, at: usize, mask: u32, target: u32, visited: u32) -> Found
+    requires { ⌜ Short w × ((at < w .len) × (target < 32)) ⌝ }
+    ensures { λ r. ⌜ FoundAs at visited (given (not (testBit visited target) && placeOn (placeAt w fixed at) mask) (some (target ∷ []))) r ⌝ }
+{
+    if (visited >> target) & 1 == 0 {
+        if allows(w, fixed, at, mask) {
+            let mut parties = [0u8; 32];
+            parties[at + 1] = target as u8;
+            return Found {
+                found: true,
+                visited: visited | (1u32 << target),
+                parties,
+                tried: 0,
+            };
+        }
+    }
+    none(0)
+}
+
+// From party u along the places from `at` on.
+pub fn party_search(
+    g: Table,
+    w: Word,
+    fixed: usize,
+    at: usize,
+    n: usize,
+    u: usize,
+    target: usize,
+    visited: u32,
+) -> Found
+    requires { ⌜ Asked w at n u target ⌝ }
+    ensures { λ r. ⌜ FoundAs at visited (searchFrom n g visited u target (placesFrom w fixed at)) r ⌝ }
+{
+    let len = w.len;
+    if at + 1 < len {
+        return candidate_search(g, w, fixed, at, n, u, target, visited);
+    }
+    let row = g.rows[u];
+    last_step(w, fixed, at, row.masks[target], target as u32, visited)
+}
+
+// The candidates after party u in ascending order, and from each to the party beyond. The target ends a path, so it is no candidate here.
+// Once those that failed have cost 16 parties for each place left, beside which a look at walks is cheap, a candidate with no walk onward is skipped.
+pub fn candidate_search(
+    g: Table,
+    w: Word,
+    fixed: usize,
+    at: usize,
+    n: usize,
+    u: usize,
+    target: usize,
+    visited: u32,
+) -> Found
+    requires { ⌜ (at + 1 < w .len) × Asked w at n u target ⌝ }
+    ensures { λ r. ⌜ FoundAs at visited (searchFrom n g visited u target (placesFrom w fixed at)) r ⌝ }
+{
+    let len = w.len;
+    let row = g.rows[u];
+    // every party, until walks were looked at
+    let mut onward: u32 = 4294967295;
+    let mut tried: u32 = 1;
+    let mut v: usize = 0;
+    while v < n {
+        if v != target {
+            let c = v as u32;
+            if (visited >> c) & 1 == 0 {
+                if (onward >> c) & 1 == 1 {
+                    if allows(w, fixed, at, row.masks[v]) {
+                        let more = visited | (1u32 << c);
+                        let mut f = none(0);
+                        if at + 2 < len {
+                            f = party_search(g, w, fixed, at + 1, n, v, target, more);
+                        } else {
+                            let beyond = g.rows[v];
+                            f = last_step(
+                                w,
+                                fixed,
+                                at + 1,
+                                beyond.masks[target],
+                                target as u32,
+                                more,
+                            );
+                        }
+                        if f.found {
+                            f.parties[at + 1] = v as u8;
+                            return f;
+                        }
+                        if at + 2 < len {
+                            tried = std::num::wrapping_add_u32(tried, f.tried);
+                            if onward == 4294967295 {
+                                if (len - at) * 16 < tried as usize {
+                                    onward = walkable(g, w, fixed, at + 1, n, target, visited);
+                                }
+                            }
+                        }
+                    }
+                }
+            }
+        }
+        v += 1;
+    }
+    none(tried)
+}

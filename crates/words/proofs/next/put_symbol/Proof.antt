@@ -1,0 +1,31 @@
+-- One symbol is stored; the others stay.
+use mathlib.Core.Path.{_≡_, refl, _∙_}
+use mathlib.Core.Logic.{by-cases}
+use Prim.Native.Nat.{ℕ}
+use native.Mathlib.Decide.{ℕ-discrete}
+use native.Mathlib.Omega.{arith}
+use lib.ListN.{length, length-set}
+use lib.Seq.{getD-set-same, getD-set-other}
+use borrow.Author.Needs.{needs}
+use Rattle.words.proofs.next.put_symbol.Statement.{statement}
+use Rattle.words.proofs.next.put_symbol.Tie as tie
+
+element-write-w : tie.Need-element-write-w
+element-write-w c = search needs
+
+returns : tie.Need-returns
+returns c =
+    let a = c .args in
+    let n : length (a .t1 .symbols) ≡ 31 = c .pre .1 .1 .full in (
+      record {
+        len = c .pre .1 .1 .len;
+        full = length-set (a .t1 .symbols) (a .at) (a .s) ∙ n;
+        symbols = λ i h. by-cases (ℕ-discrete i (a .at))
+            (λ q. rw (q, getD-set-same (a .t1 .symbols) (a .at) (a .s) 0 (omega arith)) (c .pre .1 .0))
+            (λ q. rw (getD-set-other (a .t1 .symbols) (a .at) i (a .s) 0 q) (c .pre .1 .1 .symbols i h));
+      },
+      (refl, refl),
+    )
+
+pub put-symbol-spec : {M : Type 1} → statement M
+put-symbol-spec = tie.close (tie.spec element-write-w returns)

@@ -1,0 +1,2 @@
+pub mod CasesHold
+pub mod FilesHold
