@@ -5,6 +5,7 @@
  *
  * A pointer must be valid also where its length is 0, and the buffers of a call
  * must not overlap. No function keeps a pointer or holds state between calls.
+ * A call needs up to 640 KB of stack: give a thread that calls 1 MiB.
  */
 #ifndef HEMPMALLET_H
 #define HEMPMALLET_H
@@ -36,31 +37,33 @@ uint64_t hempmallet_permit(const uint8_t *file, size_t file_len,
 /* The longest file that can be legal. */
 #define HEMPMALLET_LONGEST_FILE 35784u
 
-/* The low byte of a reply: a refusal's number, or one of these. */
+/* The low byte of a reply: a refusal's number, below HEMPMALLET_FIRST_KIND, or one of these. */
+#define HEMPMALLET_FIRST_KIND 128u
+
 enum {
-    HEMPMALLET_CONVERTIBLE = 16, /* verdict; the list's length stands above */
-    HEMPMALLET_NO_WORD = 17,     /* verdict; a pair stands above */
-    HEMPMALLET_RIVAL = 18,       /* verdict; a pair and its rival stand above */
-    HEMPMALLET_MINED = 16,       /* mining; the length written stands above */
-    HEMPMALLET_NO = 16,          /* permit */
-    HEMPMALLET_YES = 17          /* permit */
+    HEMPMALLET_CONVERTIBLE = 128, /* verdict; the list's length stands above */
+    HEMPMALLET_NO_WORD = 129,     /* verdict; a pair stands above */
+    HEMPMALLET_RIVAL = 130,       /* verdict; a pair and its rival stand above */
+    HEMPMALLET_MINED = 128,       /* mining; the length written stands above */
+    HEMPMALLET_NO = 128,          /* permit */
+    HEMPMALLET_YES = 129          /* permit */
 };
 
 /* Refusals. Nothing stands above them. */
 enum {
-    HEMPMALLET_REFUSED_LENGTH = 1,         /* file: shorter than 8 bytes, or of another length than the header says */
-    HEMPMALLET_REFUSED_HEADER = 2,         /* file: a header field outside its range */
-    HEMPMALLET_REFUSED_LINK = 3,           /* file: a head or next above R */
-    HEMPMALLET_REFUSED_REACHED_TWICE = 4,  /* file: a record reached a second time */
-    HEMPMALLET_REFUSED_NEVER_REACHED = 5,  /* file: a record never reached */
-    HEMPMALLET_REFUSED_TARGET = 6,         /* file: a target of n or more, or the chain's own party */
-    HEMPMALLET_REFUSED_KIND = 7,           /* file: a kind byte that is neither a label below L nor FF */
-    HEMPMALLET_REFUSED_REPEATED = 8,       /* file: target and kind of an earlier record of the chain */
-    HEMPMALLET_REFUSED_LIST = 9,           /* permit: the list's bytes break the layout, or a symbol is not the file's */
-    HEMPMALLET_REFUSED_PAIR = 10,          /* permit: a party of n or more, or the same party twice */
-    HEMPMALLET_REFUSED_SCRATCH = 12,       /* mining: scratch below HEMPMALLET_SCRATCH bytes */
-    HEMPMALLET_REFUSED_CONVERTIBLE = 13,   /* mining: the file is not convertible */
-    HEMPMALLET_REFUSED_OUTPUT = 14         /* mining: output below the list's length */
+    HEMPMALLET_REFUSED_LENGTH = 1,           /* file: shorter than 8 bytes, or of another length than the header says */
+    HEMPMALLET_REFUSED_HEADER = 2,           /* file: a header field outside its range */
+    HEMPMALLET_REFUSED_LINK = 3,             /* file: a head or next above R */
+    HEMPMALLET_REFUSED_REACHED_TWICE = 4,    /* file: a record reached a second time */
+    HEMPMALLET_REFUSED_NEVER_REACHED = 5,    /* file: a record never reached */
+    HEMPMALLET_REFUSED_TARGET = 6,           /* file: a target of n or more, or the chain's own party */
+    HEMPMALLET_REFUSED_KIND = 7,             /* file: a kind byte that is neither a label below L nor FF */
+    HEMPMALLET_REFUSED_REPEATED = 8,         /* file: target and kind of an earlier record of the chain */
+    HEMPMALLET_REFUSED_LIST = 9,             /* permit: the list's bytes break the layout, or a symbol is not the file's */
+    HEMPMALLET_REFUSED_PAIR = 10,            /* permit: a party of n or more, or the same party twice */
+    HEMPMALLET_REFUSED_SCRATCH = 12,         /* mining: scratch below HEMPMALLET_SCRATCH bytes */
+    HEMPMALLET_REFUSED_NOT_CONVERTIBLE = 13, /* mining: the file is not convertible */
+    HEMPMALLET_REFUSED_OUTPUT = 14           /* mining: output below the list's length */
 };
 
 /* The low byte of a reply. */
@@ -72,7 +75,7 @@ static inline unsigned hempmallet_kind(uint64_t reply)
 /* Whether the reply is a refusal; its number is then hempmallet_kind. */
 static inline int hempmallet_refused(uint64_t reply)
 {
-    return hempmallet_kind(reply) < 16u;
+    return hempmallet_kind(reply) < HEMPMALLET_FIRST_KIND;
 }
 
 /* The length of HEMPMALLET_CONVERTIBLE and of HEMPMALLET_MINED. */

@@ -136,7 +136,7 @@ def is_symbol(house, symbol):
 
 def symbols(house):
     """The symbols of the house, lower first."""
-    return [s for s in range(4 * house.labels) if is_symbol(house, s)]
+    return [4 * label + kind for label in range(house.labels) for kind in KINDS[house.language]]
 
 
 def holds(house, u, v, symbol):
@@ -155,7 +155,8 @@ def holds(house, u, v, symbol):
 
 def enlarged(house):
     """The enlarged graph: for each pair the symbols that hold, lower first."""
-    return {(u, v): [s for s in symbols(house) if holds(house, u, v, s)] for u, v in pairs(house)}
+    every = symbols(house)
+    return {(u, v): [s for s in every if holds(house, u, v, s)] for u, v in pairs(house)}
 
 
 def all_paths(house, u, v, graph=None):
@@ -210,20 +211,22 @@ def next_word(house, u, v, word):
 class Known:
     """A file's check, its house, the words of its pairs and its verdict, each reckoned once.
 
-    other is known of a file that differs in its permits at most; words are taken from it."""
+    other is known of a file that differs in its permits at most; graph and words are taken from it."""
 
     def __init__(self, data, other=None):
         self.refusal = check(data)
         self.house = None if self.refusal else decode(data)
-        self.graph = None if self.refusal else enlarged(self.house)
-        self.tables = {}
-        if other is not None:
+        if other is None:
+            self.graph = None if self.refusal else enlarged(self.house)
+            self.tables = {}
+        else:
             if self.house._replace(permits=other.house.permits) != other.house:
                 raise ValueError("the files differ in more than permits")
-            self.tables = other.tables
+            self.graph, self.tables = other.graph, other.tables
         self.lists = None
         self.answer = None
         self.mined = None
+        self.listed = (None, None)
 
     def least_paths(self, u, v):
         """A dictionary from the pair's words, in word order, to the least path of each."""
@@ -255,6 +258,12 @@ class Known:
         if self.mined is None:
             self.mined = mine(self.house, self.table())
         return self.mined
+
+    def decoded(self, listed):
+        """The terms of a rule list, or BrokenList. Those of the last sound list are kept."""
+        if self.listed[0] != listed:
+            self.listed = (bytes(listed), decode_list(self.house, listed))
+        return self.listed[1]
 
 
 # ------------------------------------------------------- terms and rule lists
@@ -485,7 +494,7 @@ def permit_reply(known, u, v, listed):
     if not is_pair(known.house, u, v):
         return ("refused", 10)
     try:
-        terms = decode_list(known.house, listed)
+        terms = known.decoded(listed)
     except BrokenList:
         return ("refused", 9)
     return ("yes",) if permits_by(terms, known.least_paths(u, v)) else ("no",)
@@ -507,7 +516,7 @@ def text_reply(known, listed):
     if known.refusal:
         return ("refused", known.refusal)
     try:
-        return ("text", list_text(decode_list(known.house, listed)))
+        return ("text", list_text(known.decoded(listed)))
     except BrokenList:
         return ("refused", 9)
 

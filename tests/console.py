@@ -12,6 +12,7 @@ import subprocess
 
 GUARD = 16
 REFUSALS = range(1, 15)
+FIRST_KIND = 128
 
 NUMBER, BYTES, LENGTH = ctypes.c_uint64, ctypes.c_void_p, ctypes.c_size_t
 
@@ -34,11 +35,11 @@ def build(archive, folder):
 # ------------------------------------------------------------------- replies
 
 def unpack(number, kinds):
-    """The reply of a number; kinds has, for each kind from 16 on, what makes the reply of what stands above it."""
+    """The reply of a number; kinds has, for each kind from the first on, what makes the reply of what stands above it."""
     kind, above = number % 256, number // 256
     if kind in REFUSALS and above == 0:
         return ("refused", kind)
-    reply = kinds[kind - 16](above) if 0 <= kind - 16 < len(kinds) else None
+    reply = kinds[kind - FIRST_KIND](above) if 0 <= kind - FIRST_KIND < len(kinds) else None
     return ("unpacked", number) if reply is None else reply
 
 

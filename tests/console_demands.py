@@ -89,7 +89,7 @@ def permit_occurrences(known, pair, listed, reply):
     if known.refusal:
         return ["file refused"]
     if reply == ("refused", 10):
-        broken = run_permit.until_fault(known.house, listed)[1]
+        broken = run_permit.until_fault(known, listed)[1]
         found += ["refused 10 with a broken list"] if broken else []
         found += ["a party above 255"] if max(pair) > 255 else []
     elif reply[0] != "refused":

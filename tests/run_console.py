@@ -196,7 +196,7 @@ def path_case(run, made, pair, word):
 # ------------------------------------------------------------------------ the run
 
 # 01's cases A, B and C, a refused file, and the numbers that docs/EXPORTS.md has for them.
-PACKED = [("A", 0x710), ("B", 0x0201010012), ("C", 0x0211), ("A with record 2's next 01 00", 4)]
+PACKED = [("A", 0x780), ("B", 0x0201010082), ("C", 0x0281), ("A with record 2's next 01 00", 4)]
 
 
 def hold_packed(run):

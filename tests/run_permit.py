@@ -366,18 +366,24 @@ def add_long(collection):
 
 # -------------------------------------------------------- what is demanded
 
-def until_fault(house, listed):
+def until_fault(known, listed):
     """The whole terms before the first fault, and the fault or None."""
+    try:
+        return known.decoded(listed), None
+    except brute.BrokenList as fault:
+        return terms_before_fault(known.house, listed), str(fault)
+
+
+def terms_before_fault(house, listed):
     terms = []
     try:
         count, at = brute.take_number(listed, 0)
         for _ in range(count):
             term, at = brute.take_term(house, listed, at)
             terms.append(term)
-        brute.decode_list(house, listed)
-    except brute.BrokenList as fault:
-        return terms, str(fault)
-    return terms, None
+    except brute.BrokenList:
+        pass
+    return terms
 
 
 def permit_occurrences(known, pair, listed, reply):
@@ -387,7 +393,7 @@ def permit_occurrences(known, pair, listed, reply):
         if pair[0] == pair[1] and len(listed) < 2:
             found.append("file refused with a wrong pair and a broken list")
         return found + ["file refused"]
-    terms, fault = until_fault(known.house, listed)
+    terms, fault = until_fault(known, listed)
     if reply == ("refused", 10):
         kind = "same party twice" if pair[0] == pair[1] < known.house.n else "a party too high"
         return found + [kind, "refused 10 with a %s list" % ("broken" if fault else "sound")]
@@ -418,7 +424,7 @@ def text_occurrences(known, listed, reply):
     """The names of what occurs in a text case."""
     if reply[0] == "refused":
         return ["frames", "refused %d" % reply[1]] + (["file refused"] if known.refusal else [])
-    return ["frames", "texts"] + sizes(listed, brute.decode_list(known.house, listed))
+    return ["frames", "texts"] + sizes(listed, known.decoded(listed))
 
 
 def sizes(listed, terms):

@@ -904,9 +904,10 @@ class ListCalls(unittest.TestCase):
             self.assertEqual(sum(len(one) == len(listed) and one[at] != listed[at] for one in changed), 2)
 
     def test_faults_are_named(self):
-        house = brute.decode(stored.case_file("A"))
+        known = brute.Known(stored.case_file("A"))
         for text, terms, fault in (
                 ("01 00 01 00 02 00 00", [[(0, 0)]], None),
+                ("01 00 01 00 01 00", [[(0,)]], None),
                 ("02 00 01 00 01 00 01 00 00", [[(0,)]], "a word of length 0"),
                 ("02 00 01 00 01 00 01 00 03 00 00 00", [[(0,)]], "a word longer than D"),
                 ("01 00 01 00 01 01", [], "a kind not of the language"),
@@ -915,8 +916,9 @@ class ListCalls(unittest.TestCase):
                 ("02 00 01 00 01 00 00 00", [[(0,)]], "a term of no words"),
                 ("01", [], "cut short in a number"),
                 ("01 00 02 00 01 00", [], "cut short before a word"),
-                ("01 00 01 00 02 00", [], "cut short in a word")):
-            self.assertEqual(run_permit.until_fault(house, hexadecimal(text)), (terms, fault), text)
+                ("01 00 01 00 02 00", [], "cut short in a word"),
+                ("01 00 01 00 01 00", [[(0,)]], None)):
+            self.assertEqual(run_permit.until_fault(known, hexadecimal(text)), (terms, fault), text)
 
 
 class LargerFiles(unittest.TestCase):

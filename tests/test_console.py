@@ -28,22 +28,22 @@ import stored
 class Unpacking(unittest.TestCase):
 
     def test_the_table_of_the_documents(self):
-        self.assertEqual(console.unpack(0x710, console.VERDICT), ("convertible", 7))
-        self.assertEqual(console.unpack(0x211, console.VERDICT), ("no-word", (2, 0)))
-        self.assertEqual(console.unpack(0x0201010012, console.VERDICT), ("rival", (0, 1), (1, 2)))
-        self.assertEqual(console.unpack(0x710, console.MINING), ("length", 7))
-        self.assertEqual(console.unpack(0x10, console.PERMIT), ("no",))
-        self.assertEqual(console.unpack(0x11, console.PERMIT), ("yes",))
+        self.assertEqual(console.unpack(0x780, console.VERDICT), ("convertible", 7))
+        self.assertEqual(console.unpack(0x281, console.VERDICT), ("no-word", (2, 0)))
+        self.assertEqual(console.unpack(0x0201010082, console.VERDICT), ("rival", (0, 1), (1, 2)))
+        self.assertEqual(console.unpack(0x780, console.MINING), ("length", 7))
+        self.assertEqual(console.unpack(0x80, console.PERMIT), ("no",))
+        self.assertEqual(console.unpack(0x81, console.PERMIT), ("yes",))
         for kinds in (console.VERDICT, console.MINING, console.PERMIT):
             for number in range(1, 15):
                 self.assertEqual(console.unpack(number, kinds), ("refused", number))
 
     def test_nothing_else_is_a_reply(self):
-        for number in (0, 15, 0x104, 0x13, 0x1000211, 0x10201010012, (1 << 64) - 1):
+        for number in (0, 15, 16, 127, 0x104, 0x83, 0x1000281, 0x10201010082, (1 << 64) - 1):
             self.assertEqual(console.unpack(number, console.VERDICT), ("unpacked", number))
-        for number in (0, 15, 17, 18, 1 << 32 | 12):
+        for number in (0, 15, 16, 127, 129, 130, 1 << 32 | 12):
             self.assertEqual(console.unpack(number, console.MINING), ("unpacked", number))
-        for number in (0, 15, 18, 0x110, 0x111, 1 << 63 | 17):
+        for number in (0, 15, 16, 17, 127, 130, 0x180, 0x181, 1 << 63 | 129):
             self.assertEqual(console.unpack(number, console.PERMIT), ("unpacked", number))
 
 
@@ -56,7 +56,7 @@ uint64_t hempmallet_verdict(uint8_t *file, size_t n) {
     if (file[0] == 1) spoil(file, 0);
     if (file[0] == 2) spoil(file, -1);
     if (file[0] == 3) spoil(file, n);
-    return 0x210;
+    return 0x280;
 }
 uint64_t hempmallet_mining(uint8_t *file, size_t n, uint8_t *s, size_t sn, uint8_t *o, size_t on) {
     if (file[0] == 1) spoil(file, n - 1);
@@ -66,13 +66,13 @@ uint64_t hempmallet_mining(uint8_t *file, size_t n, uint8_t *s, size_t sn, uint8
     if (file[0] == 5) spoil(o, -1);
     if (file[0] == 6) spoil(o, 0);
     if (file[0] == 7) spoil(s, sn - 1);
-    return 0x210;
+    return 0x280;
 }
 uint64_t hempmallet_permit(uint8_t *file, size_t n, uint8_t *l, size_t ln, size_t a, size_t b) {
     if (file[0] == 1) spoil(l, 0);
     if (file[0] == 2) spoil(l, ln);
     if (file[0] == 3) spoil(file, n);
-    return a == (size_t)1 << 40 && b == 5 ? 17 : 16;
+    return a == (size_t)1 << 40 && b == 5 ? 129 : 128;
 }
 """
 

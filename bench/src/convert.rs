@@ -79,7 +79,8 @@ fn print_table(tables: &[Table]) {
         let file = || black_box(&table.file[..]);
         let product = || product::verdict(file());
         let measured = timing::measure(&name, &|| reply::verdict(file()), product::LINKED.then_some(&product));
-        assert_eq!(measured.answer & 255 == 16, table.convertible, "another verdict than meant: {name}");
+        let convertible = measured.answer & 255 == reply::CONVERTIBLE;
+        assert_eq!(convertible, table.convertible, "another verdict than meant: {name}");
         println!("verdict   {name}{}{:>13}", measured.columns(), listing_time(table, measured.answer));
         ratios.extend(measured.ratio().map(|ratio| ("verdict", ratio)));
         if table.convertible {
@@ -98,7 +99,8 @@ fn listing_time(table: &Table, verdict: u64) -> String {
     let start = timing::used();
     let Ok(failed) = algorithm1::failed(&house) else { return "stopped".into() };
     let time = timing::used() - start;
-    let named = (verdict & 255 != 16).then_some(((verdict >> 8 & 255) as usize, (verdict >> 16 & 255) as usize));
+    let party = |byte: u32| (verdict >> (8 * byte) & 255) as usize;
+    let named = (verdict & 255 != reply::CONVERTIBLE).then_some((party(1), party(2)));
     assert_eq!(failed.first().copied(), named, "Algorithm 1 and the verdict differ");
     format!("{:.1}", time.as_secs_f64() * 1e6)
 }
@@ -108,15 +110,15 @@ fn program_text(file: &[u8]) -> String {
     let verdict = reply::verdict(file);
     let party = |byte: u32| verdict >> (8 * byte) & 255;
     match verdict & 255 {
-        16 => {
+        reply::CONVERTIBLE => {
             let house = house::read(file).unwrap_or_else(|number| panic!("file refused {number}"));
             let length = (verdict >> 8) as usize;
             let terms = rules::mine(&house).map_or(Vec::new(), |mined| mined.terms);
             let rest = if length > PROGRAM_LIST { "refused 14\n".into() } else { rules::text(&terms) };
             format!("convertible {length}\n{rest}")
         }
-        17 => format!("not-convertible {} {} no-word\n", party(1), party(2)),
-        18 => format!("not-convertible {} {} rival {} {}\n", party(1), party(2), party(3), party(4)),
+        reply::NO_WORD => format!("not-convertible {} {} no-word\n", party(1), party(2)),
+        reply::RIVAL => format!("not-convertible {} {} rival {} {}\n", party(1), party(2), party(3), party(4)),
         number => format!("refused {number}\n"),
     }
 }

@@ -6,7 +6,11 @@ use crate::twin::MOST_PARTIES;
 
 pub const SCRATCH: usize = 1024;
 
-const FIRST_KIND: u64 = 16;
+/// The least low byte of a reply that is no refusal.
+const FIRST_KIND: u64 = 128;
+pub const CONVERTIBLE: u64 = FIRST_KIND;
+pub const NO_WORD: u64 = FIRST_KIND + 1;
+pub const RIVAL: u64 = FIRST_KIND + 2;
 
 fn place(number: usize, byte: u32) -> u64 {
     (number as u64) << (8 * byte)
@@ -23,9 +27,9 @@ pub fn verdict(file: &[u8]) -> u64 {
         Err(number) => return number as u64,
     };
     match rules::mine(&house) {
-        Ok(mined) => FIRST_KIND | place(rules::encode(&mined.terms).len(), 1),
-        Err(Obstacle::NoWord(pair)) => FIRST_KIND + 1 | pair_at(pair, 1),
-        Err(Obstacle::Rival(pair, rival)) => FIRST_KIND + 2 | pair_at(pair, 1) | pair_at(rival, 3),
+        Ok(mined) => CONVERTIBLE | place(rules::encode(&mined.terms).len(), 1),
+        Err(Obstacle::NoWord(pair)) => NO_WORD | pair_at(pair, 1),
+        Err(Obstacle::Rival(pair, rival)) => RIVAL | pair_at(pair, 1) | pair_at(rival, 3),
     }
 }
 

@@ -11,23 +11,22 @@ use Rattle.lists.proofs.Cases.{by-test}
 use Rattle.rebac.specs.Verdict.{isConvertible}
 use Rattle.rebac.specs.Existence.{problemOf, verdictOf}
 use Rattle.house_file.specs.Check.{checkOf}
+use Rattle.house_layout.specs.Reply.{numberOf}
+use Rattle.house_layout.specs.declared.reply.Refusal.{Refusal}
 use Rattle.house_layout.specs.declared.reply.Check.the-variants.{Accepted, Refused}
 use Rattle.graph.specs.Archive.{matterOf}
 use Rattle.graph.proofs.LoadLaws.{accepted-limits}
 use Rattle.rules.specs.declared.call.PermitReply.{PermitReply}
 use Rattle.rules.specs.declared.call.PermitReply.the-variants as permit
-use Rattle.mining.specs.declared.build.Pair.{Pair}
 use Rattle.conversion.specs.declared.verdict.VerdictReply.{VerdictReply}
 use Rattle.conversion.specs.declared.verdict.VerdictReply.the-variants as verdict
 use Rattle.conversion.specs.declared.mine.MiningReply.{MiningReply}
 use Rattle.conversion.specs.declared.mine.MiningReply.the-variants as mining
 use Rattle.conversion.specs.Calls.{bytesOf, verdictCall, miningIn, miningCall, minedReply}
 use Rattle.house_layout.proofs.RefusalNumbers.{number-apart, number-small}
+use Rattle.conversion.proofs.ReplyLaws.{pair-same}
 use Rattle.conversion.proofs.Demand3.{by-check, bytes-bound, length-bound, no-word-parties, rival-parties}
-use Rattle.console.specs.Packing.{packVerdict, packMining, packPermit, VerdictInRange, MiningInRange}
-
-pair-same : (p q : Pair) → p .first ≡ q .first → p .second ≡ q .second → p ≡ q
-pair-same p q a b = λ i. record { first = a i; second = b i }
+use Rattle.console.specs.Packing.{firstKind, packVerdict, packMining, packPermit, VerdictInRange, MiningInRange}
 
 -- a byte and what stands above it
 byte-apart : (a b x y : ℕ) → a < 256 → b < 256 → a + 256 * x ≡ b + 256 * y → (a ≡ b) × (x ≡ y)
@@ -35,22 +34,25 @@ byte-apart a b x y h k e =
     let z : x ≡ y = by-cases (decLt x y) (λ (l : x < y). absurd (omega arith)) (λ n. by-cases (decLt y x) (λ (l : y < x). absurd (omega arith)) (λ m. omega arith)) in
     (omega arith, z)
 
+refusal-below : (x : Refusal) → numberOf x < firstKind
+refusal-below x = omega (arith, number-small x)
+
 pub verdict-apart : (v w : VerdictReply) → VerdictInRange v → VerdictInRange w → packVerdict v ≡ packVerdict w → v ≡ w
 verdict-apart (verdict.Refused x) (verdict.Refused y) r s e = ap verdict.Refused (number-apart x y e)
-verdict-apart (verdict.Refused x) (verdict.Convertible k) r s e = absurd (omega (arith, number-small x))
-verdict-apart (verdict.Refused x) (verdict.NoWord p) r s e = absurd (omega (arith, number-small x))
-verdict-apart (verdict.Refused x) (verdict.Rival p q) r s e = absurd (omega (arith, number-small x))
-verdict-apart (verdict.Convertible k) (verdict.Refused y) r s e = absurd (omega (arith, number-small y))
+verdict-apart (verdict.Refused x) (verdict.Convertible k) r s e = absurd (omega (arith, refusal-below x))
+verdict-apart (verdict.Refused x) (verdict.NoWord p) r s e = absurd (omega (arith, refusal-below x))
+verdict-apart (verdict.Refused x) (verdict.Rival p q) r s e = absurd (omega (arith, refusal-below x))
+verdict-apart (verdict.Convertible k) (verdict.Refused y) r s e = absurd (omega (arith, refusal-below y))
 verdict-apart (verdict.Convertible k) (verdict.Convertible j) r s e = let z : k ≡ j = omega arith in ap verdict.Convertible z
 verdict-apart (verdict.Convertible k) (verdict.NoWord p) r s e = absurd (omega arith)
 verdict-apart (verdict.Convertible k) (verdict.Rival p q) r s e = absurd (omega arith)
-verdict-apart (verdict.NoWord p) (verdict.Refused y) r s e = absurd (omega (arith, number-small y))
+verdict-apart (verdict.NoWord p) (verdict.Refused y) r s e = absurd (omega (arith, refusal-below y))
 verdict-apart (verdict.NoWord p) (verdict.Convertible k) r s e = absurd (omega arith)
 verdict-apart (verdict.NoWord p) (verdict.NoWord q) r s e =
     let a = byte-apart (p .first) (q .first) (p .second) (q .second) (r .0) (s .0) (omega arith) in
     ap verdict.NoWord (pair-same p q (a .0) (a .1))
 verdict-apart (verdict.NoWord p) (verdict.Rival x y) r s e = absurd (omega arith)
-verdict-apart (verdict.Rival p q) (verdict.Refused y) r s e = absurd (omega (arith, number-small y))
+verdict-apart (verdict.Rival p q) (verdict.Refused y) r s e = absurd (omega (arith, refusal-below y))
 verdict-apart (verdict.Rival p q) (verdict.Convertible k) r s e = absurd (omega arith)
 verdict-apart (verdict.Rival p q) (verdict.NoWord x) r s e = absurd (omega arith)
 verdict-apart (verdict.Rival p q) (verdict.Rival x y) r s e =
@@ -63,18 +65,18 @@ verdict-apart (verdict.Rival p q) (verdict.Rival x y) r s e =
 
 pub mining-apart : (v w : MiningReply) → MiningInRange v → MiningInRange w → packMining v ≡ packMining w → v ≡ w
 mining-apart (mining.Refused x) (mining.Refused y) r s e = ap mining.Refused (number-apart x y e)
-mining-apart (mining.Refused x) (mining.Wrote k) r s e = absurd (omega (arith, number-small x))
-mining-apart (mining.Wrote k) (mining.Refused y) r s e = absurd (omega (arith, number-small y))
+mining-apart (mining.Refused x) (mining.Wrote k) r s e = absurd (omega (arith, refusal-below x))
+mining-apart (mining.Wrote k) (mining.Refused y) r s e = absurd (omega (arith, refusal-below y))
 mining-apart (mining.Wrote k) (mining.Wrote j) r s e = let z : k ≡ j = omega arith in ap mining.Wrote z
 
 pub permit-apart : (v w : PermitReply) → packPermit v ≡ packPermit w → v ≡ w
 permit-apart (permit.Refused x) (permit.Refused y) e = ap permit.Refused (number-apart x y e)
-permit-apart (permit.Refused x) permit.Yes e = absurd (omega (arith, number-small x))
-permit-apart (permit.Refused x) permit.No e = absurd (omega (arith, number-small x))
-permit-apart permit.Yes (permit.Refused y) e = absurd (omega (arith, number-small y))
+permit-apart (permit.Refused x) permit.Yes e = absurd (omega (arith, refusal-below x))
+permit-apart (permit.Refused x) permit.No e = absurd (omega (arith, refusal-below x))
+permit-apart permit.Yes (permit.Refused y) e = absurd (omega (arith, refusal-below y))
 permit-apart permit.Yes permit.Yes e = refl
 permit-apart permit.Yes permit.No e = absurd (omega arith)
-permit-apart permit.No (permit.Refused y) e = absurd (omega (arith, number-small y))
+permit-apart permit.No (permit.Refused y) e = absurd (omega (arith, refusal-below y))
 permit-apart permit.No permit.Yes e = absurd (omega arith)
 permit-apart permit.No permit.No e = refl
 

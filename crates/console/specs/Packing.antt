@@ -10,20 +10,24 @@ use Rattle.conversion.specs.declared.verdict.VerdictReply.the-variants as verdi
 use Rattle.conversion.specs.declared.mine.MiningReply.{MiningReply}
 use Rattle.conversion.specs.declared.mine.MiningReply.the-variants as mining
 
+-- the lowest byte of a call's first reply that is no refusal; every refusal's number is below it
+abbrev pub firstKind : ℕ
+firstKind = 128
+
 abbrev pub packVerdict : VerdictReply → ℕ
 packVerdict (verdict.Refused x) = numberOf x
-packVerdict (verdict.Convertible k) = 16 + 256 * k
-packVerdict (verdict.NoWord p) = 17 + 256 * p .first + 65536 * p .second
-packVerdict (verdict.Rival p q) = 18 + 256 * p .first + 65536 * p .second + 16777216 * q .first + 4294967296 * q .second
+packVerdict (verdict.Convertible k) = firstKind + 256 * k
+packVerdict (verdict.NoWord p) = firstKind + 1 + 256 * p .first + 65536 * p .second
+packVerdict (verdict.Rival p q) = firstKind + 2 + 256 * p .first + 65536 * p .second + 16777216 * q .first + 4294967296 * q .second
 
 abbrev pub packMining : MiningReply → ℕ
 packMining (mining.Refused x) = numberOf x
-packMining (mining.Wrote k) = 16 + 256 * k
+packMining (mining.Wrote k) = firstKind + 256 * k
 
 abbrev pub packPermit : PermitReply → ℕ
 packPermit (permit.Refused x) = numberOf x
-packPermit permit.No = 16
-packPermit permit.Yes = 17
+packPermit permit.No = firstKind
+packPermit permit.Yes = firstKind + 1
 
 -- the replies that have a number of their own: parties of one byte, a length of 56 bits
 abbrev pub SmallPair : Pair → Type 0

@@ -11,10 +11,10 @@ pub fn pack_verdict(v: VerdictReply) -> u64
 {
     match v {
         VerdictReply::Refused(x) => house_layout::number(x) as u64,
-        VerdictReply::Convertible(k) => 16 + 256 * (k as u64),
-        VerdictReply::NoWord(p) => 17 + 256 * (p.first as u64) + 65536 * (p.second as u64),
+        VerdictReply::Convertible(k) => 128 + 256 * (k as u64),
+        VerdictReply::NoWord(p) => 129 + 256 * (p.first as u64) + 65536 * (p.second as u64),
         VerdictReply::Rival(p, q) => {
-            18
+            130
                 + 256 * (p.first as u64)
                 + 65536 * (p.second as u64)
                 + 16777216 * (q.first as u64)
@@ -29,7 +29,7 @@ pub fn pack_mining(m: MiningReply) -> u64
 {
     match m {
         MiningReply::Refused(x) => house_layout::number(x) as u64,
-        MiningReply::Wrote(k) => 16 + 256 * (k as u64),
+        MiningReply::Wrote(k) => 128 + 256 * (k as u64),
     }
 }
 
@@ -38,7 +38,7 @@ pub fn pack_permit(p: PermitReply) -> u64
 {
     match p {
         PermitReply::Refused(x) => house_layout::number(x) as u64,
-        PermitReply::No => 16,
-        PermitReply::Yes => 17,
+        PermitReply::No => 128,
+        PermitReply::Yes => 129,
     }
 }

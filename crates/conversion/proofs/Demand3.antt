@@ -1,18 +1,16 @@
 -- Demand 3 of the verdict, mining, permit and path calls: the existence theorem of rebac, carried to the replies of the calls by the definitions that their contracts cite.
 use mathlib.Core.Path.{_≡_, refl, sym, ap, _∙_, subst}
-use mathlib.Core.Logic.{_↔_, _⊎_, inl, inr, ⊎-elim}
+use mathlib.Core.Logic.{_⊎_, inl, inr, ⊎-elim}
 use mathlib.Core.Bool.{Bool, true, false, not, _&&_}
 use mathlib.Core.List.{List, [], _∷_, _++_, map, List·Memᴰ, List·Memᴰ·head, List·Memᴰ·tail, List·Memᴰ·not-nil, List·Memᴰ·append-cases, Memᴰ·append-right}
 use mathlib.Core.Option.{none, some}
-use Prim.Native.Nat.{ℕ, zero, suc, _+_, _*_, _-_, _/_, _%_, _≤_, _<_}
+use Prim.Native.Nat.{ℕ, zero, suc, _+_, _*_, _/_, _%_, _≤_, _<_}
 use native.Mathlib.Omega.{arith}
-use lib.Dec.{leb}
-use lib.ListN.{length, drop, getD, length-append, length-replicate, replicate, List·getD-append}
-use lib.Seq.{take-append-seam}
+use lib.ListN.{length, drop, getD, List·getD-append}
 use borrow.Author.Tests.{leb-true, le-leb, lt-leb, not-true}
 use Rattle.lists.specs.Lists.{upFrom, range}
 use Rattle.lists.specs.Order.{Ascending}
-use Rattle.lists.proofs.Cases.{by-test, by-found, by-mem, clash, both, and-both, and-left, and-right}
+use Rattle.lists.proofs.Cases.{by-test, by-found, by-mem, clash, both, and-left, and-right}
 use Rattle.lists.proofs.ListLaws.{up-length, First, all-in, all-of, map-out}
 use Rattle.lists.proofs.OrderLaws.{length-map}
 use Rattle.rebac.specs.Matter.{Matter, Pair, pair, IsPair, pairsOf, pairBefore, permitted}
@@ -20,7 +18,7 @@ use Rattle.rebac.specs.Words.{Word, lexLess}
 use Rattle.rebac.specs.Paths.{has, leastPath}
 use Rattle.rebac.specs.Symbols.{enlarged}
 use Rattle.rebac.specs.Verdict.{convertible, noWord, rivalled, isConvertible, judge, rival, covers, spoils}
-use Rattle.rebac.specs.Existence.{problemOf, problemOver, verdictOf, minedList, plainTerm, plainList, permitsPair, ConvertsAny, Converts, MatterWord, score}
+use Rattle.rebac.specs.Existence.{problemOf, problemOver, verdictOf, minedList, plainTerm, plainList, permitsPair, ConvertsAny, Converts, MatterWord, HasWord, score}
 use Rattle.rebac.specs.NextWord.{pairWords}
 use Rattle.rebac.proofs.SymbolsLaws.{alphabet-below}
 use Rattle.rebac.proofs.AnyList.{any-list-verdict}
@@ -28,16 +26,16 @@ use Rattle.rebac.proofs.PairsLaws.{pairs-in, pairs-out, pairs-ascending}
 use Rattle.rebac.proofs.Reach.{has-in, has-out, least-is-path, least-is-least, least-none}
 use Rattle.rebac.proofs.SearchLaws.{least-size}
 use Rattle.rebac.proofs.VerdictLaws.{judge-word, judge-no-rival, NoWord, Rivalled, is-convertible}
-use Rattle.rebac.proofs.Conversion.{score-has, score-one, pair-words-in, pair-words-out, mined-words, mined-terms-few, mined-items-few, no-word-verdict, rival-verdict, convertible-iff, mined-converts}
+use Rattle.rebac.proofs.Conversion.{score-has, score-one, word-in, word-out, mined-words, mined-terms-few, mined-items-few, no-word-verdict, rival-verdict, convertible-iff, mined-converts}
 use Rattle.house_file.specs.Check.{checkOf}
 use Rattle.house_layout.specs.declared.reply.Check.{Check}
 use Rattle.house_layout.specs.declared.reply.Check.the-variants.{Accepted, Refused}
 use Rattle.house_layout.specs.declared.reply.Refusal.{Refusal}
 use Rattle.graph.specs.Archive.{matterOf, Limits}
-use Rattle.graph.specs.Legal.{isPair, legalSymbol}
+use Rattle.graph.specs.Legal.{isPair}
 use Rattle.graph.proofs.LoadLaws.{accepted-limits}
 use Rattle.graph.proofs.LegalLaws.{pair-of, pair-is}
-use Rattle.paths.specs.Calls.{pathCall, found, writes, nothing, legalWord}
+use Rattle.paths.specs.Calls.{pathCall, found, writes, nothing}
 use Rattle.search.specs.declared.word.Word.{Word as WordValue}
 use Rattle.paths.specs.declared.call.Reply.the-variants.{Wrote as WrotePath}
 use Rattle.paths.proofs.CallLaws.{path-answer}
@@ -52,7 +50,7 @@ use Rattle.conversion.specs.Calls.{listOf, bytesOf, replyOf, verdictIn, 
 use Rattle.conversion.specs.declared.mine.MiningReply.the-variants.{Wrote}
 use Rattle.conversion.proofs.SizeLaws.{term-bound, list-bound}
 use Rattle.conversion.proofs.ReplyLaws.{reply-convertible, reply-no-word, reply-rival, reply-refused}
-use Rattle.conversion.specs.Demands.{pairIn, HasWord, Wordless, IsRival, Hinders, FirstPair, ShowsPath, MinesList}
+use Rattle.conversion.specs.Demands.{pairIn, Wordless, IsRival, Hinders, FirstPair, ShowsPath, MinesList}
 
 -- by the check's reply
 pub by-check : {G : Type 0} (c : Check) → (c ≡ Accepted → G) → ((x : Refusal) → c ≡ Refused x → G) → G
@@ -76,12 +74,6 @@ first-before R {p} {l} {x} r s y m h =
 
 -- a matter's words and rivals, from the statements to the tests
 module _ (M : Matter) where
-  word-in : (p : Pair) (w : Word) → HasWord M p w → List·Memᴰ w (pairWords M p)
-  word-in p w h = pair-words-in M p w (h .0) (has-in (enlarged M) p w (h .1 .0) (h .1 .1))
-
-  word-out : (p : Pair) (w : Word) → List·Memᴰ w (pairWords M p) → HasWord M p w
-  word-out p w m = let r = pair-words-out M p w m in (r .0, has-out (enlarged M) p w (r .0 .some) (r .1))
-
   listed : (p : Pair) → IsPair (M .parties) p → List·Memᴰ p (pairsOf (M .parties))
   listed p h = pairs-in (M .parties) (p .first) (p .second) (h .first) (h .second) (h .different)
 
@@ -90,7 +82,7 @@ module _ (M : Matter) where
   rival-in p q r =
       rw (r .unpermitted)
       (all-of _ (pairWords M p) (λ w m.
-      let h = word-out p w m in
+      let h = word-out M p w m in
       let a : has (enlarged M) p w ≡ true = has-in (enlarged M) p w (h .1 .0) (h .1 .1) in
       let k = r .all w h in
       let b : has (enlarged M) q w ≡ true = has-in (enlarged M) q w (k .1 .0) (k .1 .1) in
@@ -101,13 +93,13 @@ module _ (M : Matter) where
   rival-out p q w m e =
       let u : not (permitted M q) ≡ true = and-left (not (permitted M q)) _ e in
       record {
-        words = (w .0, word-out p (w .0) (w .1));
+        words = (w .0, word-out M p (w .0) (w .1));
         isPair = pairs-out (M .parties) m;
         unpermitted = not-true (permitted M q) u;
         all = λ v h.
             let a : has (enlarged M) p v ≡ true = has-in (enlarged M) p v (h .1 .0) (h .1 .1) in
             let b : 1 ≤ score M p v = leb-true 1 (score M p v) (score-has M p v ∙ a) in
-            let c : score M p v ≤ score M q v = leb-true _ _ (all-in _ (pairWords M p) (and-right (not (permitted M q)) _ e) (word-in p v h)) in
+            let c : score M p v ≤ score M q v = leb-true _ _ (all-in _ (pairWords M p) (and-right (not (permitted M q)) _ e) (word-in M p v h)) in
             (h .0, has-out (enlarged M) q v (h .0 .some) (sym (score-has M q v) ∙ le-leb 1 (score M q v) (omega arith)));
       }
 
@@ -119,7 +111,7 @@ module _ (M : Matter) where
       let j = is-convertible (problemOf M) (judge (problemOf M) p) c in
       let w : (w : Word) × List·Memᴰ w (pairWords M p) = judge-word (problemOf M) p j in
       ⊎-elim
-      (λ (n : Wordless M p). absurd (n (w .0) (word-out p (w .0) (w .1))))
+      (λ (n : Wordless M p). absurd (n (w .0) (word-out M p (w .0) (w .1))))
       (λ (r : (q : Pair) × IsRival M p q). both (rival-in p (r .0) (r .1)) (judge-no-rival (problemOf M) p j (r .0) (listed (r .0) (r .1 .isPair))))
       (h .why))
       (λ c. rw (h .permit, c))
@@ -144,7 +136,7 @@ module _ (M : Matter) where
   unfolding problemOf problemOver pairWords
   no-word-first p v =
       let r : NoWord (problemOf M) p = no-word-verdict M p v in
-      let n : Wordless M p = λ w h. List·Memᴰ·not-nil (rw (r .empty) at (word-in p w h)) in
+      let n : Wordless M p = λ w h. List·Memᴰ·not-nil (rw (r .empty) at (word-in M p w h)) in
       (first-hinders p (r .first) (record { permit = r .permit; why = inl n }), n)
 
   rival-first : (p q : Pair) → verdictOf M ≡ rivalled p q → FirstPair M (Hinders M) p × FirstPair M (IsRival M p) q
@@ -275,7 +267,7 @@ module _ (f : List ℕ) (e : checkOf f ≡ Accepted) where
   table-back a b p q v =
       table-at (matterOf f) a b p q
       ∙ by-test (isPair (matterOf f .parties) a b)
-      (λ t. rw (t, mined-converts (matterOf f) refl v .exact (pair a b) (listed (matterOf f) (pair a b) (pair-of (matterOf f .parties) a b t))))
+      (λ t. rw (t, mined-converts (matterOf f) refl v .any .exact (pair a b) (listed (matterOf f) (pair a b) (pair-of (matterOf f .parties) a b t))))
       (λ t. rw t)
 
   -- convertible: mining with scratch and output enough writes the list of that length, and permit on it and scratch give back the permit table

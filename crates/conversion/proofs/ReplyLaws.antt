@@ -37,8 +37,8 @@ reply-refused size x (noWord p) e = clash (cc e)
 reply-refused size x (rivalled p q) e = clash (cc e)
 
 -- a pair by its two numbers
-pair-known : (p q : PairValue) → p .first ≡ q .first → p .second ≡ q .second → p ≡ q
-pair-known p q a b = λ i. record { first = a i; second = b i }
+pub pair-same : (p q : PairValue) → p .first ≡ q .first → p .second ≡ q .second → p ≡ q
+pair-same p q a b = λ i. record { first = a i; second = b i }
 
 -- equal numbers and values mean equal replies
 pub verdict-said : (r s : VerdictReply) → saidVerdict r ≡ saidVerdict s → r ≡ s
@@ -52,14 +52,14 @@ verdict-said (reply.Convertible j) (reply.NoWord p) e = clash (cc e)
 verdict-said (reply.Convertible j) (reply.Rival p q) e = clash (cc e)
 verdict-said (reply.NoWord x) (reply.Refused y) e = clash (cc e)
 verdict-said (reply.NoWord x) (reply.Convertible k) e = clash (cc e)
-verdict-said (reply.NoWord x) (reply.NoWord p) e = ap reply.NoWord (pair-known x p (cc e) (cc e))
+verdict-said (reply.NoWord x) (reply.NoWord p) e = ap reply.NoWord (pair-same x p (cc e) (cc e))
 verdict-said (reply.NoWord x) (reply.Rival p q) e = clash (cc e)
 verdict-said (reply.Rival x y) (reply.Refused z) e = clash (cc e)
 verdict-said (reply.Rival x y) (reply.Convertible k) e = clash (cc e)
 verdict-said (reply.Rival x y) (reply.NoWord p) e = clash (cc e)
 verdict-said (reply.Rival x y) (reply.Rival p q) e =
-    let a : x ≡ p = pair-known x p (cc e) (cc e) in
-    let b : y ≡ q = pair-known y q (cc e) (cc e) in
+    let a : x ≡ p = pair-same x p (cc e) (cc e) in
+    let b : y ≡ q = pair-same y q (cc e) (cc e) in
     rw (a, b) refl
 
 pub mining-said : (r s : MiningReply) → saidMining r ≡ saidMining s → r ≡ s

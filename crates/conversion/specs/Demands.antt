@@ -7,9 +7,9 @@ use mathlib.Core.List.{List, _∷_, _++_}
 use lib.ListN.{length, drop, getD}
 use Rattle.rebac.specs.Matter.{Matter, Pair, pair, IsPair, pairBefore, permitted}
 use Rattle.rebac.specs.Words.{Word, lexLess}
-use Rattle.rebac.specs.Paths.{Path, HasPath}
+use Rattle.rebac.specs.Paths.{Path}
 use Rattle.rebac.specs.Symbols.{enlarged}
-use Rattle.rebac.specs.Existence.{MatterWord}
+use Rattle.rebac.specs.Existence.{HasWord}
 use Rattle.graph.specs.Archive.{matterOf}
 use Rattle.graph.specs.Legal.{isPair}
 use Rattle.search.specs.Word.{symbolsIn}
@@ -24,10 +24,6 @@ use Rattle.conversion.specs.declared.mine.MiningReply.the-variants.{Wrot
 -- the pair that a reply names
 abbrev pub pairIn : PairValue → Pair
 pairIn p = pair (p .first) (p .second)
-
--- "A pair has a word when some path from its first to its second party has that word, of length at most D"
-abbrev pub HasWord : Matter → Pair → Word → Type 0
-HasWord M p w = MatterWord M w × HasPath (enlarged M) p w
 
 abbrev pub Wordless : Matter → Pair → Type 0
 Wordless M p = (w : Word) → HasWord M p w → ⊥

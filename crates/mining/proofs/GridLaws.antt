@@ -13,7 +13,7 @@ use Rattle.lists.specs.Order.{Ascending}
 use Rattle.lists.proofs.ListLaws.{filter-in, filter-out, map-in, map-out, up-in, up-out}
 use Rattle.lists.proofs.OrderLaws.{ascending-filter, ascending-map, ascending-equal, up-ascending}
 use Rattle.lists.proofs.Pointwise.{filter-none}
-use Rattle.rebac.specs.Matter.{Pair, pair, IsPair, pairBefore, pairsOf}
+use Rattle.rebac.specs.Matter.{Pair, pair, pairBefore, pairsOf}
 use Rattle.rebac.proofs.PairsLaws.{pairs-in, pairs-out, pairs-ascending, pair-one-way}
 use Rattle.rebac.proofs.LexOrder.{first-lower, first-same}
 use Rattle.graph.specs.Legal.{isPair}

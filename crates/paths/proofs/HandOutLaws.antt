@@ -1,23 +1,23 @@
 -- Called again and again, next-word hands out the words of the pair: each call is the definition's next word after the word given, and the words left grow fewer.
-use mathlib.Core.Path.{_≡_, refl, sym, ap, _∙_}
+use mathlib.Core.Path.{_≡_, refl, ap, _∙_}
 use mathlib.Core.Bool.{true}
-use mathlib.Core.List.{List, [], _∷_, _++_, List·Memᴰ·not-nil}
+use mathlib.Core.List.{List, [], _++_, List·Memᴰ·not-nil}
 use mathlib.Core.Option.{none, some}
 use Prim.Native.Nat.{ℕ, zero, suc, _≤_, _<_}
 use native.Mathlib.Omega.{arith}
 use lib.Dec.{leb}
-use lib.ListN.{length, take, drop, length-append, length-drop}
+use lib.ListN.{length, drop, length-append, length-drop}
 use lib.Seq.{take-append-seam}
 use borrow.Author.Tests.{le-leb}
-use Rattle.lists.specs.Lists.{filterBy}
 use Rattle.lists.proofs.Cases.{by-found, and-both}
 use Rattle.lists.proofs.ListLaws.{all-of}
 use Rattle.lists.proofs.Pointwise.{filter-length}
-use Rattle.rebac.specs.Matter.{Matter, Pair, pair}
+use Rattle.rebac.specs.Matter.{Matter, pair}
 use Rattle.rebac.specs.Words.{Over, before}
 use Rattle.rebac.specs.Symbols.{alphabet}
 use Rattle.rebac.specs.NextWord.{pairWords, nextWord, wordsLeft, handedOut}
 use Rattle.rebac.proofs.SymbolsLaws.{listed-language}
+use Rattle.rebac.proofs.Conversion.{word-in, word-out, pair-words-ascending, pair-words-distinct}
 use Rattle.rebac.proofs.NextWordLaws.{next-finds, next-hands-out, words-left-fall}
 use Rattle.house_file.specs.Check.{checkOf}
 use Rattle.house_layout.specs.declared.reply.Check.the-variants.{Accepted}
@@ -27,8 +27,8 @@ use Rattle.graph.proofs.LoadLaws.{accepted-limits}
 use Rattle.graph.proofs.LegalLaws.{legal-symbol}
 use Rattle.search.specs.Word.{Carries}
 use Rattle.search.specs.declared.word.Word.{Word}
-use Rattle.paths.specs.Calls.{Answer, writes, nothing, found, legalWord, nextCall}
-use Rattle.paths.specs.HandOut.{HandedOut, handOut}
+use Rattle.paths.specs.Calls.{writes, nothing, found, legalWord, nextCall}
+use Rattle.paths.specs.HandOut.{HandedOut, handOut, HandsOut}
 use Rattle.paths.specs.declared.call.Reply.the-variants.{Nothing}
 use Rattle.paths.proofs.CallLaws.{next-answer}
 
@@ -75,10 +75,18 @@ module _ (f : List ℕ) (e : checkOf f ≡ Accepted) (a b : ℕ) (p : isPair (ma
       let r = hands-out k w (w ++ drop (length w) output) (next-given v w n) (omega arith) (omega (arith, words-left-fall (matterOf f) (pair a b) v w n)) in
       rw (q, n, handedOut, take-append-seam w (drop (length w) output), r) refl)
 
-  -- Demand 2, "Next-word hands out each word of a pair once, in order", over the call: begun with the empty word it hands out exactly the words of the pair,
-  -- is never refused, and then says that there is none
-  pub next-exact : (output : List ℕ) → 31 ≤ length output → (k : ℕ) → length (pairWords (matterOf f) (pair a b)) < k → handOut value f a b k [] output ≡ record { words = pairWords (matterOf f) (pair a b); last = Nothing }
+  -- begun with the empty word it hands out the words of the pair, and ends
+  pub next-handed : (output : List ℕ) → 31 ≤ length output → (k : ℕ) → length (pairWords (matterOf f) (pair a b)) < k → handOut value f a b k [] output ≡ record { words = pairWords (matterOf f) (pair a b); last = Nothing }
   unfolding ended wordsLeft
-  next-exact output h k l =
+  next-handed output h k l =
       hands-out k [] output (record { over = λ s m. absurd (List·Memᴰ·not-nil m); short = omega arith }) h (omega (arith, filter-length (before []) (pairWords (matterOf f) (pair a b))))
       ∙ ap ended (next-hands-out (matterOf f) (pair a b) k (omega arith))
+
+  -- Demand 2 over the call: for calls enough, each word of the pair once, in order, never refused, and then that there is none
+  pub next-exact : (output : List ℕ) → 31 ≤ length output → (k : ℕ) → length (pairWords (matterOf f) (pair a b)) < k → HandsOut (matterOf f) (pair a b) (handOut value f a b k [] output)
+  next-exact output h k l = rw (next-handed output h k l) (record {
+    words = λ w. (word-out (matterOf f) (pair a b) w, word-in (matterOf f) (pair a b) w);
+    once = pair-words-distinct (matterOf f) (pair a b);
+    order = pair-words-ascending (matterOf f) (pair a b);
+    end = refl;
+  })

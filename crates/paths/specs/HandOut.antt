@@ -1,9 +1,15 @@
 -- Next-word called again and again, as a host does that goes through the words of a pair (demand 2).
 use Prim.Native.Nat.{ℕ, zero, suc}
-use mathlib.Core.List.{List, [], _∷_}
+use mathlib.Core.Path.{_≡_}
+use mathlib.Core.Logic.{_↔_}
+use mathlib.Core.List.{List, [], _∷_, List·Memᴰ}
 use lib.ListN.{length, take}
+use Rattle.lists.specs.Order.{Ascending, Distinct}
+use Rattle.rebac.specs.Matter.{Matter, Pair}
+use Rattle.rebac.specs.Words.{before}
+use Rattle.rebac.specs.Existence.{HasWord}
 use Rattle.search.specs.declared.word.Word.{Word}
-use Rattle.paths.specs.Calls.{Answer, replyOf, outputOf, nextCall}
+use Rattle.paths.specs.Calls.{replyOf, outputOf, nextCall}
 use Rattle.paths.specs.declared.call.Reply.{Reply}
 use Rattle.paths.specs.declared.call.Reply.the-variants.{Refused, Nothing, Wrote}
 
@@ -26,3 +32,10 @@ handOut value f a b (suc k) v output =
     (replyOf (nextCall f a b (value v) (length output)))
     (outputOf (nextCall f a b (value v) (length output)) output)
     (λ w. handOut value f a b k w (outputOf (nextCall f a b (value v) (length output)) output))
+
+-- demand 2, "Next-word hands out each word of a pair once, in order": exactly the words that the pair has, and then that there is none
+pub record HandsOut (M : Matter) (p : Pair) (h : HandedOut) : Type 0 where
+  pub words : (w : List ℕ) → List·Memᴰ w (h .words) ↔ HasWord M p w
+  pub once : Distinct (h .words)
+  pub order : Ascending before (h .words)
+  pub end : h .last ≡ Nothing

@@ -50,19 +50,18 @@ module _ (M : Matter) where
   kept-converts : (r : List (List Word)) → ConvertsAny M r → Converts M (kept r)
   kept-converts r c =
       record {
-        full = λ t m. c .some t (filter-out (allOf inUse) r m .0);
+        any = record {
+          full = λ t m. c .full t (filter-out (allOf inUse) r m .0);
+          short = λ t m w n. c .short t (filter-out (allOf inUse) r m .0) w n;
+          exact = λ p m. kept-permits r p m ∙ c .exact p m;
+        };
         fits = λ t m w n. let k = filter-out (allOf inUse) r m in in-use-word w (all-in inUse t (k .1) n) (c .short t (k .0) w n);
-        exact = λ p m. kept-permits r p m ∙ c .exact p m;
       }
 
   -- from any list at all to the verdict
   pub any-list-verdict : (r : List (List Word)) → ConvertsAny M r → verdictOf M ≡ convertible
   any-list-verdict r c = converts-verdict M (kept r) (kept-converts r c)
 
-  -- a list of the matter's words is such a list
-  pub converts-any : (r : List (List Word)) → Converts M r → ConvertsAny M r
-  converts-any r c = record { some = c .full; short = λ t m w n. c .fits t m w n .short; exact = c .exact }
-
   -- demand 3: convertible exactly where some list, whatever its words, permits exactly the permitted pairs
   pub convertible-iff-any : capOf (M .language) ≡ 1 → (verdictOf M ≡ convertible) ↔ ((r : List (List Word)) × ConvertsAny M r)
-  convertible-iff-any cap = (λ v. (plainList (minedList M), converts-any _ (mined-converts M cap v)), λ x. any-list-verdict (x .0) (x .1))
+  convertible-iff-any cap = (λ v. (plainList (minedList M), mined-converts M cap v .any), λ x. any-list-verdict (x .0) (x .1))

@@ -21,10 +21,10 @@ use Rattle.rebac.specs.Symbols.{alphabet, enlarged, capOf}
 use Rattle.rebac.specs.Rules.{Item, Term, RuleList, meetsItem, meets, permits}
 use Rattle.rebac.specs.Verdict.{convertible, noWord, rivalled, wordsOf}
 use Rattle.rebac.specs.Mining.{own}
-use Rattle.rebac.specs.Existence.{Suitable, matterWords, score, problemOver, problemOf, verdictOf, minedList, MatterWord, hasAll, permitsPair, Converts, plainTerm, plainList, one, ones}
+use Rattle.rebac.specs.Existence.{Suitable, matterWords, score, problemOver, problemOf, verdictOf, minedList, MatterWord, HasWord, hasAll, permitsPair, Converts, plainTerm, plainList, one, ones}
 use Rattle.rebac.specs.NextWord.{pairWords}
 use Rattle.rebac.proofs.LexOrder.{before-irreflexive}
-use Rattle.rebac.proofs.Reach.{count-has, count-one, has-out}
+use Rattle.rebac.proofs.Reach.{count-has, count-one, has-in, has-out}
 use Rattle.rebac.proofs.SearchLaws.{count-at-most}
 use Rattle.rebac.proofs.WordsLaws.{words-listed, listed-words, words-ascending}
 use Rattle.rebac.proofs.SymbolsLaws.{alphabet-ascending, cap-positive}
@@ -52,6 +52,13 @@ module _ (M : Matter) where
   pair-words-out p w m =
       let r = words-out (problemOf M) p m in
       (listed-words (alphabet (M .language) (M .labels)) (M .longest) w (r .0), sym (score-has p w) ∙ le-leb 1 (score M p w) (r .1))
+
+  -- in 01's words: the members are the words that the pair has
+  pub word-in : (p : Pair) (w : Word) → HasWord M p w → List·Memᴰ w (pairWords M p)
+  word-in p w h = pair-words-in p w (h .0) (has-in (enlarged M) p w (h .1 .0) (h .1 .1))
+
+  pub word-out : (p : Pair) (w : Word) → List·Memᴰ w (pairWords M p) → HasWord M p w
+  word-out p w m = let r = pair-words-out p w m in (r .0, has-out (enlarged M) p w (r .0 .some) (r .1))
 
   pub pair-words-ascending : (p : Pair) → Ascending before (pairWords M p)
   unfolding pairWords wordsOf problemOf problemOver matterWords
@@ -153,11 +160,11 @@ module _ (M : Matter) where
   converts-verdict r c =
       suitable-converts (problemOf M) (ones r) (record {
         terms = λ t m. let s = map-out (λ t. map one t) r m in rw (s .2) (record {
-          full = rw (length-map one (s .0)) (c .full (s .0) (s .1));
+          full = rw (length-map one (s .0)) (c .any .full (s .0) (s .1));
           counts = λ i n. let v = map-out one (s .0) n in rw (v .2) (omega arith);
           listed = λ i n. let v = map-out one (s .0) n in rw (v .2) (words-listed (alphabet (M .language) (M .labels)) (M .longest) (v .0) (c .fits (s .0) (s .1) (v .0) (v .1)));
         });
-        exact = λ p m. permits-one p (ones r) (λ t k i n. let s = map-out (λ t. map one t) r k in let v = map-out one (s .0) (rw (s .2) at n) in rw (v .2)) ∙ rw (plain-ones r) (c .exact p m);
+        exact = λ p m. permits-one p (ones r) (λ t k i n. let s = map-out (λ t. map one t) r k in let v = map-out one (s .0) (rw (s .2) at n) in rw (v .2)) ∙ rw (plain-ones r) (c .any .exact p m);
       })
 
   module _ (cap : capOf (M .language) ≡ 1) where
@@ -171,10 +178,15 @@ module _ (M : Matter) where
     unfolding verdictOf minedList problemOf problemOver
     mined-converts v =
         let x : Suitable (problemOf M) (minedList M) = mined-suitable (problemOf M) v in
+        let words : (t : List Word) → List·Memᴰ t (plainList (minedList M)) → (w : Word) → List·Memᴰ w t → MatterWord M w =
+        λ t m w n. let s = map-out plainTerm (minedList M) m in let i = map-out (λ i. i .word) (s .0) (rw (s .2) at n) in rw (i .2) (mined-words M (s .0) (s .1) (i .0) (i .1)) in
         record {
-          full = λ t m. let s = map-out plainTerm (minedList M) m in rw (s .2, length-map (λ i. i .word) (s .0)) (x .terms (s .0) (s .1) .full);
-          fits = λ t m w n. let s = map-out plainTerm (minedList M) m in let i = map-out (λ i. i .word) (s .0) (rw (s .2) at n) in rw (i .2) (mined-words M (s .0) (s .1) (i .0) (i .1));
-          exact = λ p m. sym (permits-one p (minedList M) mined-ones) ∙ x .exact p m;
+          any = record {
+            full = λ t m. let s = map-out plainTerm (minedList M) m in rw (s .2, length-map (λ i. i .word) (s .0)) (x .terms (s .0) (s .1) .full);
+            short = λ t m w n. words t m w n .short;
+            exact = λ p m. sym (permits-one p (minedList M) mined-ones) ∙ x .exact p m;
+          };
+          fits = words;
         }
 
     -- Definition 3.8 and demand 3: convertible exactly where some rule list permits exactly the permitted pairs

@@ -7,7 +7,7 @@ use lib.ListN.{length}
 use Rattle.lists.specs.Lists.{allOf, anyOf}
 use Rattle.rebac.specs.Matter.{Matter, Pair, pairsOf, permitted}
 use Rattle.rebac.specs.Words.{Word, wordsUpTo, IsWord}
-use Rattle.rebac.specs.Paths.{Graph, has, pathCount}
+use Rattle.rebac.specs.Paths.{Graph, HasPath, has, pathCount}
 use Rattle.rebac.specs.Symbols.{alphabet, enlarged, capOf}
 use Rattle.rebac.specs.Rules.{Problem, Item, Term, RuleList, permits}
 use Rattle.rebac.specs.Verdict.{Verdict, verdict}
@@ -50,6 +50,10 @@ minedList M = mine (problemOf M)
 abbrev pub MatterWord : Matter → Word → Type 0
 MatterWord M w = IsWord (alphabet (M .language) (M .labels)) (M .longest) w
 
+-- 01: "A pair has a word when some path from its first to its second party has that word, of length at most D"
+abbrev pub HasWord : Matter → Pair → Word → Type 0
+HasWord M p w = MatterWord M w × HasPath (enlarged M) p w
+
 unfoldable pub hasAll : Matter → Pair → List Word → Bool
 hasAll M p t = allOf (has (enlarged M) p) t
 
@@ -59,15 +63,14 @@ permitsPair M r p = anyOf (hasAll M p) r
 -- 01: "Demand 3 is about every such list with words of at most D symbols, whatever its numbers of terms and words, even where no list bytes could hold it."
 -- The symbols of a word may be any numbers, and a word may be empty: no pair has such a word.
 pub record ConvertsAny (M : Matter) (r : List (List Word)) : Type 0 where
-  pub some : (t : List Word) → List·Memᴰ t r → 1 ≤ length t
+  pub full : (t : List Word) → List·Memᴰ t r → 1 ≤ length t
   pub short : (t : List Word) → List·Memᴰ t r → (w : Word) → List·Memᴰ w t → length w ≤ M .longest
   pub exact : (p : Pair) → List·Memᴰ p (pairsOf (M .parties)) → permitsPair M r p ≡ permitted M p
 
--- the same for a list of words of the matter
+-- and its words are the matter's, as the mined list's are
 pub record Converts (M : Matter) (r : List (List Word)) : Type 0 where
-  pub full : (t : List Word) → List·Memᴰ t r → 1 ≤ length t
+  pub any : ConvertsAny M r
   pub fits : (t : List Word) → List·Memᴰ t r → (w : Word) → List·Memᴰ w t → MatterWord M w
-  pub exact : (p : Pair) → List·Memᴰ p (pairsOf (M .parties)) → permitsPair M r p ≡ permitted M p
 
 -- the words of a list, without the counts
 abbrev pub plainTerm : Term Word → List Word

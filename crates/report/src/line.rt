@@ -75,8 +75,8 @@ fn rival_line(p: Pair, q: Pair, out: &mut [u8]) -> usize
     ensures { λ r. ⌜ Wrote (now (out .entry)) 0 (verdictLine (Rival p q)) (now (out .exit)) r ⌝ }
 {
     let word = put_bytes(out, 0, b"not-convertible ");
-    let end = put_pair(out, word, p);
-    let rival = put_bytes(out, end, b" rival ");
+    let named = put_pair(out, word, p);
+    let rival = put_bytes(out, named, b" rival ");
     let last = put_pair(out, rival, q);
     put_bytes(out, last, b"\n")
 }

@@ -51,7 +51,7 @@ module _ (M : Matter) where
 
   -- a list that converts the matter is legal where its counts fit two bytes
   pub converts-legal : (r : List (List Word)) → Converts M r → length r < 65536 → ((t : List Word) → List·Memᴰ t r → length t < 65536) → LegalFor M r
-  converts-legal r c n k = record { fits = n; terms = λ t m. record { full = c .full t m; fits = k t m; words = λ w i. legal-words w .1 (c .fits t m w i) } }
+  converts-legal r c n k = record { fits = n; terms = λ t m. record { full = c .any .full t m; fits = k t m; words = λ w i. legal-words w .1 (c .fits t m w i) } }
 
   -- and the mined list's do
   pub mined-legal : capOf (M .language) ≡ 1 → M .parties ≤ 32 → verdictOf M ≡ convertible → LegalFor M (plainList (minedList M))
@@ -79,4 +79,4 @@ pub permit-of-mined : (f : List ℕ) → checkOf f ≡ Accepted → capOf (matte
 permit-of-mined f e cap v a b p =
     let q = pair-of (matterOf f .parties) a b p in
     permit-of-list f e (plainList (minedList (matterOf f))) (mined-legal (matterOf f) cap (accepted-limits f e .parties .1) v) a b p
-    ∙ ap yesOrNo (mined-converts (matterOf f) cap v .exact (pair a b) (pairs-in (matterOf f .parties) a b (q .first) (q .second) (q .different)))
+    ∙ ap yesOrNo (mined-converts (matterOf f) cap v .any .exact (pair a b) (pairs-in (matterOf f .parties) a b (q .first) (q .second) (q .different)))

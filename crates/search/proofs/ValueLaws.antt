@@ -1,14 +1,14 @@
 -- Every word of at most 31 symbols has a value: its symbols, and zeros after them. Assumes nothing.
-use mathlib.Core.Path.{_≡_, refl, sym, ap, _∙_}
+use mathlib.Core.Path.{_≡_, refl}
 use mathlib.Core.Logic.{by-cases}
-use mathlib.Core.List.{List, _++_}
+use mathlib.Core.List.{List}
 use Prim.Native.Nat.{ℕ, _+_, _-_, _≤_, _<_}
 use native.Mathlib.Decide.{decLt}
 use native.Mathlib.Omega.{arith}
 use lib.ListN.{length, getD, replicate, length-append, length-replicate, List·getD-append}
 use lib.Seq.{take-append-seam, getD-append-add}
 use Rattle.masks.proofs.TableLaws.{getD-zeros}
-use Rattle.search.specs.Word.{symbolsIn, wordOf, IsValue, Carries}
+use Rattle.search.specs.Word.{wordOf, IsValue, Carries}
 
 pub value-carries : (v : List ℕ) → Carries (wordOf v) v
 value-carries v = record { len = refl; symbols = take-append-seam v (replicate (31 - length v) 0) }

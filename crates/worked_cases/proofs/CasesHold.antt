@@ -26,7 +26,7 @@ use Rattle.conversion.specs.declared.verdict.VerdictReply.the-variants.{Refused
 use Rattle.conversion.proofs.ReplyLaws.{reply-convertible}
 use Rattle.report.specs.Report.{digitsIn, decimalText, pairText, refusedLine, verdictLine, listPart}
 use Rattle.worked_cases.specs.Text.{bytesIn}
-use Rattle.worked_cases.specs.Cases.{Row, rows, ListHolds, RowHolds, listedEdge, listedPair}
+use Rattle.worked_cases.specs.Cases.{Row, rows, RowHolds, listedEdge, listedPair}
 
 -- a value where the reply is convertible
 abbrev ifConvertible : {A : Type 0} → VerdictReply → A → Option A

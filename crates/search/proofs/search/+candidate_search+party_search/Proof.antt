@@ -1,7 +1,7 @@
 -- Each turn of the loop is a candidate of the definition (SearchLaws), and one that is skipped leads nowhere (WalkLaws); places left fall over the calls, candidates left over the loop.
 use mathlib.Core.Path.{_≡_, refl, sym, ap, _∙_}
 use mathlib.Core.List.{List, [], _∷_}
-use mathlib.Core.Logic.{_⊎_, ⊎-elim}
+use mathlib.Core.Logic.{⊎-elim}
 use mathlib.Core.Option.{none}
 use native.Mathlib.Omega.{arith}
 use borrow.Author.Needs.{needs}
