@@ -195,17 +195,27 @@ def path_case(run, made, pair, word):
 
 # ------------------------------------------------------------------------ the run
 
-# 01's cases A, B and C, a refused file, and the numbers that docs/EXPORTS.md has for them.
+# The numbers that docs/EXPORTS.md has: 01's cases A, B and C and a refused file for the verdict; for mining and permit, A.
 PACKED = [("A", 0x780), ("B", 0x0201010082), ("C", 0x0281), ("A with record 2's next 01 00", 4)]
+PACKED_MINING = 0x780
+PACKED_PERMIT = [((0, 1), 0x80), ((0, 2), 0x81)]
 
 
 def hold_packed(run):
     """The numbers themselves."""
+    def hold(call, name, data, number, found):
+        run.hold(call, converting.Made(name, data, None), "as a number", (number,), (found,))
+
+    library = run.functions.library
     for name, number in PACKED:
         data = stored.case_file(name)
-        lent = console.Lent(run.rng, data)
-        found = run.functions.library.hempmallet_verdict(*lent.slice())
-        run.hold("verdict", converting.Made(name, data, None), "as a number", (number,), (found,))
+        file = console.Lent(run.rng, data)
+        hold("verdict", name, data, number, library.hempmallet_verdict(*file.slice()))
+    data = stored.case_file("A")
+    file, scratch, output = (console.Lent(run.functions.rng, content) for content in (data, bytes(1024), bytes(7)))
+    hold("mining", "A", data, PACKED_MINING, library.hempmallet_mining(*file.slice(), *scratch.slice(), *output.slice()))
+    for pair, number in PACKED_PERMIT:
+        hold("permit", "A", data, number, library.hempmallet_permit(*file.slice(), *output.slice(), *pair))
 
 
 def ask_all(run):

@@ -2,6 +2,7 @@
 
 A read or a write that fails is said by a line on standard error; the exit
 status is 0 there too, since a program of this toolchain has no other.
+host/permitconv.sh runs the program and has the status.
 """
 
 import contextlib
@@ -14,6 +15,7 @@ import threading
 import time
 from collections import namedtuple
 
+STATUS = os.path.join(os.path.dirname(os.path.abspath(__file__)), os.pardir, "host", "permitconv.sh")
 SECONDS = 60
 PAUSE = 0.002
 SMALL_PIPE, USUAL_PIPE = 4096, 65536   # bytes that a pipe holds
@@ -28,8 +30,8 @@ Trial = namedtuple("Trial", "name wanted found")
 
 
 def run(binary, stdin, stdout=subprocess.PIPE, feed=None, drain=None, **more):
-    """Run the program to its end. feed writes its standard input, drain reads its standard output."""
-    program = subprocess.Popen([binary], stdin=stdin, stdout=stdout, stderr=subprocess.PIPE, **more)
+    """Run the program, or a command line, to its end. feed writes its standard input, drain reads its standard output."""
+    program = subprocess.Popen([binary] if isinstance(binary, str) else binary, stdin=stdin, stdout=stdout, stderr=subprocess.PIPE, **more)
     writer = threading.Thread(target=feed, args=(program.stdin,)) if feed else None
     timer = threading.Timer(SECONDS, program.kill)
     timer.start()
@@ -161,8 +163,24 @@ def piece_trials(binary, whole, beyond_usual):
                 run(binary, subprocess.PIPE, feed=lambda pipe: in_pieces(pipe, data, len(data), 0), drain=slowly))
 
 
+# ------------------------------------------------------------------ the exit status
+
+def status_trials(binary, whole):
+    command = ["sh", STATUS, binary]
+    data = whole[0][0]
+    with descriptor("/", os.O_RDONLY) as folder:
+        yield Trial("status: a directory as standard input", Ended(1, "", NOT_READ), run(command, folder))
+    with descriptor("/dev/full", os.O_WRONLY) as full:
+        yield Trial("status: standard output on /dev/full", Ended(1, "", NOT_WRITTEN), on_file(command, data, full))
+    with unread() as pipe:
+        yield Trial("status: no reader", Ended(128 + signal.SIGPIPE, "", ""), on_file(command, data, pipe))
+    for data, text in whole:
+        yield Trial("status: %d bytes" % len(data), Ended(0, text, ""), on_file(command, data))
+
+
 def trials(binary, whole, beyond_small, beyond_usual):
     """whole: some files and their texts, the first a short one. The other two files have a text longer than a small or a usual pipe holds."""
     yield from read_trials(binary, whole[0][0])
     yield from write_trials(binary, whole[0][0], beyond_small)
     yield from piece_trials(binary, whole, beyond_usual)
+    yield from status_trials(binary, whole)

@@ -917,6 +917,7 @@ class ListCalls(unittest.TestCase):
                 ("01", [], "cut short in a number"),
                 ("01 00 02 00 01 00", [], "cut short before a word"),
                 ("01 00 01 00 02 00", [], "cut short in a word"),
+                # once more, after lists with faults: what is kept of a sound list is still its own
                 ("01 00 01 00 01 00", [[(0,)]], None)):
             self.assertEqual(run_permit.until_fault(known, hexadecimal(text)), (terms, fault), text)
 

@@ -5,8 +5,8 @@ ghost use Rattle.rebac.specs.Matter.{Matter};
 ghost use Rattle.graph.specs.Archive.{Shows};
 use graph::Archive;
 use house_layout::Check;
-use words::Next;
 use search::Word;
+use words::Next;
 
 fn wide(x: u8) -> usize {
     x as usize

@@ -3,8 +3,8 @@ ghost use mathlib.Core.Path.{_≡_};
 ghost use mathlib.Core.Bool.{true};
 ghost use Prim.Native.Nat.{_≤_};
 ghost use lib.ListN.{length};
-use house_layout::Check;
 use house_file::House;
+use house_layout::Check;
 use libc::STDIN_FILENO;
 use libc::STDOUT_FILENO;
 

@@ -3,6 +3,7 @@ use mathlib.Core.Path.{_≡_, refl, sym, ap, _∙_}
 use mathlib.Core.Bool.{Bool, true, false, _&&_}
 use mathlib.Core.List.{List}
 use Prim.Native.Nat.{ℕ, _/_, _%_, _≤_, _<_}
+use native.Mathlib.Omega.{arith}
 use lib.ListN.{length}
 use lib.Dec.{leb}
 use borrow.Author.Tests.{le-leb, lt-leb}
@@ -14,7 +15,11 @@ use Rattle.rebac.specs.Verdict.{convertible, verdict, isConvertible}
 use Rattle.rebac.specs.Mining.{mine}
 use Rattle.rebac.specs.Existence.{problemOf, verdictOf, minedList, permitsPair}
 use Rattle.rebac.proofs.Conversion.{permits-one, mined-ones}
-use Rattle.house_layout.specs.declared.reply.Refusal.the-variants.{Scratch, Inconvertible}
+use Rattle.house_layout.specs.Reply.{numberOf}
+use Rattle.house_layout.specs.declared.reply.Check.the-variants as check
+use Rattle.house_layout.specs.declared.reply.Refusal.the-variants.{Length, Field, Link, Again, Unreached, Target, Kind, Repeat, RuleList, PartyPair, GivenWord, Scratch, Inconvertible, Output}
+use Rattle.house_file.specs.Check.{checkOf}
+use Rattle.house_file.proofs.FileRefusals.{file-refusals}
 use Rattle.house_layout.specs.declared.reply.Refusal.{Refusal}
 use Rattle.graph.specs.declared.Archive.{Archive}
 use Rattle.graph.specs.Archive.{Shows}
@@ -23,7 +28,7 @@ use Rattle.mining.specs.Building.{problemIn}
 use Rattle.mining.specs.Taking.{Marks}
 use Rattle.mining.specs.declared.build.Pair.{Pair as PairValue}
 use Rattle.mining.proofs.ArchiveLaws.{problem-shown}
-use Rattle.conversion.specs.Calls.{listOf, bytesOf, replyOf, verdictIn, tableOf, refuses, tooShort, writes, miningIn}
+use Rattle.conversion.specs.Calls.{listOf, bytesOf, replyOf, verdictIn, tableOf, refuses, tooShort, writes, miningIn, scratchOf}
 use Rattle.conversion.specs.Passes.{archiveBytes, archiveVerdict, rowBytes}
 use Rattle.conversion.specs.declared.verdict.VerdictReply.the-variants.{Refused, Convertible, NoWord, Rival}
 use Rattle.conversion.proofs.TableLaws.{marks-bytes}
@@ -95,3 +100,23 @@ module _ (M : Matter) (a : Archive) (h : Shows M a) where
 pub never-refused : {G : Type 0} (a : Archive) (x : Refusal) → Refused x ≡ archiveVerdict a → G
 unfolding archiveVerdict
 never-refused a x e = reply-refused (length (archiveBytes a)) x (verdict (problemIn a)) (sym e)
+
+-- scratch is kept at a refusal that comes from a file: those are 1 to 8
+kept-at : (x : Refusal) → numberOf x ≤ 8 → (old : List ℕ) → scratchOf (refuses x) old ≡ old
+kept-at Length h old = refl
+kept-at Field h old = refl
+kept-at Link h old = refl
+kept-at Again h old = refl
+kept-at Unreached h old = refl
+kept-at Target h old = refl
+kept-at Kind h old = refl
+kept-at Repeat h old = refl
+kept-at RuleList h old = absurd (omega arith)
+kept-at PartyPair h old = absurd (omega arith)
+kept-at GivenWord h old = absurd (omega arith)
+kept-at Scratch h old = absurd (omega arith)
+kept-at Inconvertible h old = absurd (omega arith)
+kept-at Output h old = absurd (omega arith)
+
+pub file-keeps : (f : List ℕ) (x : Refusal) → checkOf f ≡ check.Refused x → (old : List ℕ) → scratchOf (refuses x) old ≡ old
+file-keeps f x e old = kept-at x (file-refusals f x e) old

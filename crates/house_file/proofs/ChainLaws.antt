@@ -11,7 +11,7 @@ use lib.ListN.{getD, set, length}
 use lib.Seq.{getD-set-same, getD-set-other}
 use lib.Dec.{eqb, ltb}
 use borrow.Author.Tests.{eq-eqb, ne-eqb, lt-ltb, le-ltb, eqb-true, not-false}
-use Rattle.lists.specs.Lists.{anyOf, member}
+use Rattle.lists.specs.Lists.{anyOf, member, pick}
 use Rattle.lists.proofs.ListLaws.{any-append, any-one}
 use Rattle.lists.proofs.Cases.{or-true, and-false, or-false}
 use Rattle.masks.specs.Mask.{testBit, withBit}
@@ -22,7 +22,6 @@ use Rattle.masks.proofs.MaskLaws.{zero-bit}
 use Rattle.house_layout.specs.Layout.{headOf, partiesOf, labelsOf, recordsOf, recordOf}
 use Rattle.house_layout.specs.Fields.{legalKind, judgeRecord}
 use Rattle.house_file.specs.Check.{recordCheck, says, Walk, stopped, passed, onward, walkChain}
-use Rattle.lists.specs.Lists.{pick}
 use Rattle.house_layout.specs.Kinds.{bitOf}
 use Rattle.house_file.specs.Reading.{Marks, RowOf, chainWalk}
 use Rattle.house_layout.specs.declared.reply.Check.{Check}

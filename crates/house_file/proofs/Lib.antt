@@ -5,3 +5,4 @@ pub mod ChainsLaws
 pub mod WellFormedLaws
 pub mod ReachedLaws
 pub mod DecodeLaws
+pub mod FileRefusals

@@ -6,11 +6,10 @@ use mathlib.Core.Bool.{Bool, _&&_, _||_}
 use mathlib.Core.List.{List, [], _∷_, List·Memᴰ}
 use lib.ListN.{length}
 use lib.Dec.{eqb, ltb}
-use Rattle.lists.specs.Lists.{anyOf}
+use Rattle.lists.specs.Lists.{anyOf, pick}
 use Rattle.lists.specs.Order.{Distinct}
 use Rattle.house_layout.specs.Layout.{byteAt, partiesOf, labelsOf, languageOf, longestOf, recordsOf, sizeOf, headOf, recordOf, permitKind}
 use Rattle.house_file.specs.Check.{says}
-use Rattle.lists.specs.Lists.{pick}
 
 -- the records from r on, as far as each number names one
 unfoldable pub chainFrom : List ℕ → ℕ → ℕ → List ℕ

@@ -8,11 +8,11 @@ ghost use Rattle.house_file.specs.Check.{checkOf};
 ghost use Rattle.house_file.specs.Decoded.{ReadAs};
 ghost use Rattle.house_file.specs.Reading.{Framed, Marks, everyReached, ChainsRead};
 use crate::chain::read_chain;
+use house_layout::Check;
 use house_layout::Header;
+use house_layout::Refusal;
 use house_layout::fields_in_range;
 use house_layout::read_header;
-use house_layout::Check;
-use house_layout::Refusal;
 use masks::Row;
 use masks::Table;
 
@@ -172,7 +172,7 @@ pub fn read(file: &[u8]) -> Reading
     }
 }
 
-// The check of any bytes: accepted, or the first refusal in 01's order.
+// The check of any bytes: accepted, or the first refusal in 01's order; in 01's number and values by `saidCheck` (`check-said`).
 pub fn check(file: &[u8]) -> Check
     ensures { λ r. ⌜ r ≡ checkOf (now (file .entry)) ⌝ }
 {

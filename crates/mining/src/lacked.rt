@@ -9,8 +9,8 @@ ghost use Rattle.graph.specs.Archive.{Shows};
 ghost use Rattle.search.specs.Word.{Short};
 ghost use Rattle.words.specs.Next.{NextAs};
 use graph::Archive;
-use words::Next;
 use search::Word;
+use words::Next;
 
 // The pair's first word.
 pub fn first_word(a: Archive, first: usize, second: usize) -> Next

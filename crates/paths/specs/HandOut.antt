@@ -24,7 +24,8 @@ onward (Refused x) output next = record { words = []; last = Refused x }
 onward Nothing output next = record { words = []; last = Nothing }
 onward (Wrote k) output next = record { words = take k output ∷ next (take k output) .words; last = next (take k output) .last }
 
--- up to k calls for the pair (a, b), the first given the word v, each other what the call before wrote, all lent the same output; `value` makes a word value of symbols
+-- up to k calls for the pair (a, b), the first given the word v, each other what the call before wrote, all lent the same output.
+-- `value` makes a word value of symbols. Where the k calls are used up `last` is a `Wrote`, and so no end.
 unfoldable pub handOut : (List ℕ → Word) → List ℕ → ℕ → ℕ → ℕ → List ℕ → List ℕ → HandedOut
 handOut value f a b zero v output = record { words = []; last = Wrote 0 }
 handOut value f a b (suc k) v output =

@@ -10,12 +10,12 @@ ghost use Rattle.graph.specs.Archive.{Shows};
 ghost use Rattle.graph.specs.Legal.{legalSymbol};
 ghost use Rattle.search.specs.Word.{symbolsIn};
 ghost use Rattle.paths.specs.Calls.{replyOf, outputOf, pathIn, nextIn, pathCall, nextCall};
-use search::search_pair;
-use words::next_word;
-use search::Word;
 use graph::Archive;
 use house_layout::Check;
 use house_layout::Refusal;
+use search::Word;
+use search::search_pair;
+use words::next_word;
 
 // What both calls reply: refused, nothing to write, or the number of bytes written. `saidReply` gives 01's number and values of each; equal ones mean equal
 // replies (`reply-said`).

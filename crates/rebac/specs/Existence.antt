@@ -54,14 +54,16 @@ MatterWord M w = IsWord (alphabet (M .language) (M .labels)) (M .longest) w
 abbrev pub HasWord : Matter → Pair → Word → Type 0
 HasWord M p w = MatterWord M w × HasPath (enlarged M) p w
 
+-- 01: "a pair meets it when it has all of them"
 unfoldable pub hasAll : Matter → Pair → List Word → Bool
 hasAll M p t = allOf (has (enlarged M) p) t
 
+-- Definition 3.7; 01: "permits a pair that meets one or more"
 unfoldable pub permitsPair : Matter → List (List Word) → Pair → Bool
 permitsPair M r p = anyOf (hasAll M p) r
 
 -- 01: "Demand 3 is about every such list with words of at most D symbols, whatever its numbers of terms and words, even where no list bytes could hold it."
--- The symbols of a word may be any numbers, and a word may be empty: no pair has such a word.
+-- A word may be empty, or have symbols that are not the language's; no pair has one that is or does.
 pub record ConvertsAny (M : Matter) (r : List (List Word)) : Type 0 where
   pub full : (t : List Word) → List·Memᴰ t r → 1 ≤ length t
   pub short : (t : List Word) → List·Memᴰ t r → (w : Word) → List·Memᴰ w t → length w ≤ M .longest

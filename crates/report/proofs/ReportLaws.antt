@@ -83,6 +83,13 @@ cut-text input h =
 pub inside : (n : ℕ) (l : List ℕ) → n ≤ length l → Inside n l
 inside n l h = (h, sym (length-take-le n l h))
 
+-- what was written from the first byte on is what stands there: so `text[..r]`, which permitconv prints, is the text
+pub wrote-text : {old x new : List ℕ} {end : ℕ} → Wrote old 0 x new end → take end new ≡ x
+unfolding put
+wrote-text {old} {x} {new} {end} w =
+    let p : end ≡ length x = omega (arith, w .place) in
+    rw (p, w .bytes) (take-append-seam x (drop (0 + length x) old))
+
 -- what was written from the first byte on is counted inside the slice
 pub wrote-inside : {old x new : List ℕ} {end : ℕ} → Wrote old 0 x new end → Inside end new
 unfolding put

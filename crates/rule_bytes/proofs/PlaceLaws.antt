@@ -14,10 +14,9 @@ use borrow.Author.Tests.{leb-true, ltb-true}
 use Rattle.lists.specs.Lists.{allOf, flatMap}
 use Rattle.lists.proofs.Cases.{and-left, and-right}
 use Rattle.house_layout.specs.Layout.{u16At}
-use Rattle.search.specs.Word.{symbolsIn, Short}
+use Rattle.search.specs.Word.{symbolsIn, Short, wordOf}
 use Rattle.rule_bytes.specs.ListBytes.{encodeCount, encodeWord, encodeTerm, encodeList, Parsed, parsed, decodeCount, legalWord, LegalList}
 use Rattle.graph.specs.Legal.{legalSymbol}
-use Rattle.search.specs.Word.{wordOf}
 use Rattle.rule_bytes.specs.Reading.{WordFits, wordAt, FitWord, FitTerm, FitList, TermAt, IsList}
 use Rattle.rule_bytes.proofs.RoundTrip.{count-encode, count-size}
 use Rattle.rule_bytes.proofs.ReadingLaws.{drop-on, count-here}

@@ -9,9 +9,8 @@ use lib.ListN.{length, take, drop, getD, length-append, length-drop}
 use lib.Seq.{drop-cons, getD-take, length-take-le}
 use lib.Dec.{eqb}
 use borrow.Author.Tests.{eqb-true, eqb-false}
-use Rattle.lists.specs.Lists.{flatMap}
+use Rattle.lists.specs.Lists.{flatMap, pick}
 use Rattle.lists.proofs.Cases.{by-test}
-use Rattle.lists.specs.Lists.{pick}
 use Rattle.house_layout.specs.Layout.{u16At}
 use Rattle.rule_bytes.specs.ListBytes.{encodeCount, encodeWord, encodeTerm}
 use Rattle.rule_bytes.specs.Reading.{wordAt, FitWord, FitTerm, TermAt, IsList}

@@ -2,8 +2,7 @@
 use Prim.Native.Nat.{ℕ, _+_, _/_, _%_}
 use mathlib.Core.List.{List, [], _∷_, _++_}
 use lib.Dec.{ltb}
-use Rattle.lists.specs.Lists.{flatMap}
-use Rattle.lists.specs.Lists.{pick}
+use Rattle.lists.specs.Lists.{flatMap, pick}
 
 -- an upper-case hexadecimal digit: 0 to 9 from 30, A to F from 41
 unfoldable pub hexDigit : ℕ → ℕ

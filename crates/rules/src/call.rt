@@ -7,13 +7,13 @@ ghost use Rattle.rebac.specs.Matter.{Matter, IsPair, pair};
 ghost use Rattle.graph.specs.Archive.{Shows};
 ghost use Rattle.rule_bytes.specs.Reading.{TermAt, SomeTerm, IsList, SomeList};
 ghost use Rattle.rules.specs.Permit.{permitIn, permitReply, meetsTerm, meetsList};
-use rule_bytes::check_list;
-use rule_bytes::read_word;
 use graph::Archive;
 use house_layout::Check;
 use house_layout::Refusal;
 use house_layout::u16_at;
 use masks::Table;
+use rule_bytes::check_list;
+use rule_bytes::read_word;
 
 // `saidPermit` gives 01's number and values of each reply; equal ones mean equal replies (`permit-said`).
 pub enum PermitReply {

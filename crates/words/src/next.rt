@@ -11,9 +11,9 @@ ghost use Rattle.search.specs.Word.{symbolsIn, Short};
 ghost use Rattle.search.specs.declared.word.Word.{Word as WordValue};
 ghost use Rattle.search.specs.Ask.{Query, tableGraph};
 ghost use Rattle.words.specs.Next.{Alphabet, NextAs, Places, completeZeros};
-use search::search_pair;
-use search::Word;
 use masks::Table;
+use search::Word;
+use search::search_pair;
 
 // A word, where there is one.
 pub struct Next {

@@ -5,6 +5,7 @@ use Rattle.house_file.specs.Check.{checkOf}
 use Rattle.house_layout.specs.declared.reply.Check.the-variants.{Accepted}
 use Rattle.graph.specs.Archive.{matterOf, Shows}
 use Rattle.conversion.specs.Calls.{miningCall}
+use Rattle.conversion.proofs.AnswerLaws.{file-keeps}
 use Rattle.conversion.proofs.mine.mining_call.Statement.{statement}
 use Rattle.conversion.proofs.mine.mining_call.Tie as tie
 
@@ -29,8 +30,9 @@ mine-in-requires c κs = (matterOf (c .before .before .before .before .before .b
 returns : tie.Need-returns
 unfolding miningCall
 returns c =
+    let a = c .before .before .before .before .before .before .before .args in
     let e = sym (c .before .before .before .load .ensures .reply) ∙ c .before .reply .given .1 in
-    rw e (refl, (refl, refl))
+    rw e (refl, (sym (file-keeps (a .file .now) _ e (a .scratch .now)), refl))
 
 same-length : tie.Need-same-length
 same-length c = search needs

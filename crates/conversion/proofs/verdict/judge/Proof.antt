@@ -14,8 +14,6 @@ use Rattle.mining.proofs.ArchiveLaws.{few-parties}
 use Rattle.mining.proofs.TakeLaws.{due-marked}
 use Rattle.conversion.proofs.PassLaws.{Passing, pass-start, pass-over, term-fits}
 use Rattle.conversion.proofs.JudgeLaws.{judge-bound, judge-next, judge-wordless, judge-rival, judge-end}
-use Rattle.conversion.proofs.JudgeLaws.{judge-bound, judge-next, judge-wordless, judge-rival, judge-end}
-use Rattle.conversion.proofs.JudgeLaws.{judge-bound, judge-next, judge-wordless, judge-rival, judge-end}
 use Rattle.conversion.proofs.verdict.judge.Statement.{statement}
 use Rattle.conversion.proofs.verdict.judge.Tie as tie
 

@@ -14,7 +14,7 @@ use Rattle.rebac.specs.Verdict.{wordsOf}
 use Rattle.rebac.specs.Mining.{lacks}
 use Rattle.rebac.specs.Existence.{plainTerm}
 use Rattle.search.specs.declared.word.Word.{Word}
-use Rattle.search.specs.Word.{symbolsIn}
+use Rattle.search.specs.Word.{symbolsIn, wordOf}
 use Rattle.search.specs.Ask.{tableGraph}
 use Rattle.words.specs.Next.{NextAs}
 use Rattle.search.proofs.SearchLaws.{symbols-length}
@@ -22,7 +22,6 @@ use Rattle.words.proofs.NextLaws.{next-not, next-some}
 use Rattle.graph.proofs.LegalLaws.{pair-of}
 use Rattle.paths.proofs.CallLaws.{query-in}
 use Rattle.rule_bytes.specs.Reading.{TermAt}
-use Rattle.search.specs.Word.{wordOf}
 use Rattle.rule_bytes.specs.ListBytes.{encodeTerm}
 use Rattle.rule_bytes.specs.Writing.{put}
 use Rattle.lists.proofs.OrderLaws.{length-map}

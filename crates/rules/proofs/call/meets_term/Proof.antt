@@ -9,9 +9,8 @@ use native.Mathlib.Omega.{arith}
 use Rattle.rebac.specs.Matter.{pair}
 use Rattle.rebac.specs.Paths.{has}
 use Rattle.search.specs.Ask.{tableGraph}
-use Rattle.search.specs.Word.{symbolsIn}
+use Rattle.search.specs.Word.{symbolsIn, wordOf}
 use Rattle.rule_bytes.specs.Reading.{TermAt}
-use Rattle.search.specs.Word.{wordOf}
 use Rattle.rules.specs.Permit.{meetsTerm}
 use Rattle.rule_bytes.specs.declared.read.WordRead.{WordRead}
 use Rattle.rule_bytes.proofs.PlaceLaws.{term-room, word-fits, word-value, word-short, word-symbols}
