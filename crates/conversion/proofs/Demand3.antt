@@ -1,18 +1,18 @@
 -- Demand 3 of the verdict, mining, permit and path calls: the existence theorem of rebac, carried to the replies of the calls by the definitions that their contracts cite.
 use mathlib.Core.Path.{_≡_, refl, sym, ap, _∙_, subst}
 use mathlib.Core.Logic.{_⊎_, inl, inr, ⊎-elim}
-use mathlib.Core.Bool.{Bool, true, false, not, _&&_}
-use mathlib.Core.List.{List, [], _∷_, _++_, map, List·Memᴰ, List·Memᴰ·head, List·Memᴰ·tail, List·Memᴰ·not-nil, List·Memᴰ·append-cases, Memᴰ·append-right}
+use mathlib.Core.Bool.{true, false, not, _&&_}
+use mathlib.Core.List.{List, _∷_, _++_, map, List·Memᴰ, List·Memᴰ·not-nil}
 use mathlib.Core.Option.{none, some}
 use Prim.Native.Nat.{ℕ, zero, suc, _+_, _*_, _/_, _%_, _≤_, _<_}
 use native.Mathlib.Omega.{arith}
 use lib.ListN.{length, drop, getD, List·getD-append}
 use borrow.Author.Tests.{leb-true, le-leb, lt-leb, not-true}
 use Rattle.lists.specs.Lists.{upFrom, range}
-use Rattle.lists.specs.Order.{Ascending}
-use Rattle.lists.proofs.Cases.{by-test, by-found, by-mem, clash, both, and-left, and-right}
-use Rattle.lists.proofs.ListLaws.{up-length, First, all-in, all-of, map-out}
-use Rattle.lists.proofs.OrderLaws.{length-map}
+use Rattle.lists.proofs.Cases.{by-test, by-found, clash, both, and-left, and-right}
+use Rattle.lists.proofs.ListLaws.{up-length, First, first-in, all-in, all-of, map-out}
+use Rattle.lists.proofs.OrderLaws.{first-before, length-map}
+use Rattle.lists.proofs.Pointwise.{getD-below}
 use Rattle.rebac.specs.Matter.{Matter, Pair, pair, IsPair, pairsOf, pairBefore, permitted}
 use Rattle.rebac.specs.Words.{Word, lexLess}
 use Rattle.rebac.specs.Paths.{has, leastPath}
@@ -56,21 +56,6 @@ use Rattle.conversion.specs.Demands.{pairIn, Wordless, IsRival, Hinders,
 pub by-check : {G : Type 0} (c : Check) → (c ≡ Accepted → G) → ((x : Refusal) → c ≡ Refused x → G) → G
 by-check Accepted g h = g refl
 by-check (Refused x) g h = h x refl
-
--- the first of the pairs that passes a test comes before every other that does
-ascending-after : {A : Type 0} (R : A → A → Bool) (l m : List A) (x y : A) → Ascending R (l ++ (x ∷ m)) → List·Memᴰ y m → R x y ≡ true
-ascending-after R [] m x y s k = s .0 y k
-ascending-after R (z ∷ l) m x y s k = ascending-after R l m x y (s .1) k
-
-first-in : {A : Type 0} {p : A → Bool} {l : List A} {x : A} → First p l x → List·Memᴰ x l
-first-in r = rw (r .split) (Memᴰ·append-right (r .pre) (List·Memᴰ·head refl))
-
-first-before : {A : Type 0} (R : A → A → Bool) {p : A → Bool} {l : List A} {x : A} → First p l x → Ascending R l → (y : A) → List·Memᴰ y l → p y ≡ true → (x ≡ y) ⊎ (R x y ≡ true)
-first-before R {p} {l} {x} r s y m h =
-    ⊎-elim
-    (λ k. both h (r .before k))
-    (λ k. by-mem k (λ e. inl (sym e)) (λ n. inr (ascending-after R (r .pre) (r .post) x y (rw (r .split) at s) n)))
-    (List·Memᴰ·append-cases (r .pre) (rw (r .split) at m))
 
 -- a matter's words and rivals, from the statements to the tests
 module _ (M : Matter) where
@@ -146,12 +131,6 @@ module _ (M : Matter) where
       let s : FirstPair M (IsRival M p) q = first-rival p q (r .word) (r .firstRival) in
       (first-hinders p (r .first) (record { permit = r .permit; why = inr (q, s .here) }), s)
 
--- numbers below a bound are so at every place, and past the end there is 0
-symbol-byte : (v : Word) → ((s : ℕ) → List·Memᴰ s v → s < 256) → (i : ℕ) → getD v i 0 < 256
-symbol-byte [] f i = omega arith
-symbol-byte (s ∷ v) f zero = f s (List·Memᴰ·head refl)
-symbol-byte (s ∷ v) f (suc i) = symbol-byte v (λ t m. f t (List·Memᴰ·tail m)) i
-
 -- a table's byte by its place
 getD-up : (g : ℕ → ℕ) (a k i : ℕ) → i < k → getD (map g (upFrom a k)) i 0 ≡ g (a + i)
 unfolding upFrom
@@ -202,7 +181,9 @@ module _ (f : List ℕ) (e : checkOf f ≡ Accepted) where
   verdict-given x q = reply-refused (length (bytesOf (matterOf f))) x (verdictOf (matterOf f)) (sym call-in ∙ q)
 
   -- convertible exactly where a rule list exists: any list at all with words of at most D symbols makes it so, and where it is so there is one of the language's own words
-  pub verdict-exact : (((r : List (List Word)) × ConvertsAny (matterOf f) r) → (k : ℕ) × (verdictCall f ≡ reply.Convertible k)) × (((k : ℕ) × (verdictCall f ≡ reply.Convertible k)) → (r : List (List Word)) × Converts (matterOf f) r)
+  pub verdict-exact :
+      (((r : List (List Word)) × ConvertsAny (matterOf f) r) → (k : ℕ) × (verdictCall f ≡ reply.Convertible k))
+      × (((k : ℕ) × (verdictCall f ≡ reply.Convertible k)) → (r : List (List Word)) × Converts (matterOf f) r)
   verdict-exact = (
     λ x. (length (bytesOf (matterOf f)), call-in ∙ rw (any-list-verdict (matterOf f) (x .0) (x .1))),
     λ x. convertible-iff (matterOf f) refl .0 (convertible-verdict (x .0) (x .1) .0),
@@ -212,7 +193,10 @@ module _ (f : List ℕ) (e : checkOf f ≡ Accepted) where
   path-call : (p : Pair) → IsPair (matterOf f .parties) p → (v : Word) → MatterWord (matterOf f) v → (w : WordValue) → Carries w v → (size : ℕ) → w .len + 1 ≤ size → pathCall f (p .first) (p .second) w size ≡ found (leastPath (enlarged (matterOf f)) p v)
   unfolding pathCall
   path-call p h v m w c size k =
-      rw e (path-answer (matterOf f) (p .first) (p .second) w size (pair-is (matterOf f .parties) (p .first) (p .second) h) (value-legal (matterOf f) v (m .over) (m .short) w c) (λ z. absurd (omega (arith, c .len, m .some))) k ∙ rw (c .symbols))
+      let l = value-legal (matterOf f) v (m .over) (m .short) w c in
+      rw e
+      (path-answer (matterOf f) (p .first) (p .second) w size (pair-is (matterOf f .parties) (p .first) (p .second) h) l (λ z. absurd (omega (arith, c .len, m .some))) k
+      ∙ rw (c .symbols))
 
   path-shown : (p : Pair) → IsPair (matterOf f .parties) p → (v : Word) → HasWord (matterOf f) p v → (w : WordValue) → Carries w v → (output : List ℕ) → w .len + 1 ≤ length output → ShowsPath f p w output
   path-shown p h v m w c output k =
@@ -239,14 +223,17 @@ module _ (f : List ℕ) (e : checkOf f ≡ Accepted) where
   pub no-word-nothing : (x : PairValue) → verdictCall f ≡ reply.NoWord x → (v : Word) → MatterWord (matterOf f) v → (w : WordValue) → Carries w v → (size : ℕ) → w .len + 1 ≤ size → pathCall f (x .first) (x .second) w size ≡ nothing
   no-word-nothing x t v m w c size k =
       let r = no-word-exact x t in
-      let n : has (enlarged (matterOf f)) (pairIn x) v ≡ false = by-test (has (enlarged (matterOf f)) (pairIn x) v) (λ h. absurd (r .1 v (m, has-out (enlarged (matterOf f)) (pairIn x) v (m .some) h))) (λ h. h) in
+      let n : has (enlarged (matterOf f)) (pairIn x) v ≡ false =
+      by-test (has (enlarged (matterOf f)) (pairIn x) v) (λ h. absurd (r .1 v (m, has-out (enlarged (matterOf f)) (pairIn x) v (m .some) h))) (λ h. h) in
       path-call (pairIn x) (r .0 .isPair) v m w c size k ∙ rw (least-none (enlarged (matterOf f)) (pairIn x) v .1 n)
 
   -- not convertible, a rival: the same pair, its first rival, and at every word of the pair the path call shows a path for both
   pub rival-exact : (x y : PairValue) → verdictCall f ≡ reply.Rival x y → FirstPair (matterOf f) (Hinders (matterOf f)) (pairIn x) × FirstPair (matterOf f) (IsRival (matterOf f) (pairIn x)) (pairIn y)
   rival-exact x y v = rival-first (matterOf f) (pairIn x) (pairIn y) (reply-rival (length (bytesOf (matterOf f))) x y (verdictOf (matterOf f)) (sym call-in ∙ v))
 
-  pub rival-shown : (x y : PairValue) → verdictCall f ≡ reply.Rival x y → (v : Word) → HasWord (matterOf f) (pairIn x) v → (w : WordValue) → Carries w v → (output : List ℕ) → 32 ≤ length output → ShowsPath f (pairIn x) w output × ShowsPath f (pairIn y) w output
+  pub rival-shown :
+      (x y : PairValue) → verdictCall f ≡ reply.Rival x y → (v : Word) → HasWord (matterOf f) (pairIn x) v → (w : WordValue) → Carries w v
+      → (output : List ℕ) → 32 ≤ length output → ShowsPath f (pairIn x) w output × ShowsPath f (pairIn y) w output
   rival-shown x y t v h w c output k =
       let r = rival-exact x y t in
       let room : w .len + 1 ≤ length output = omega (arith, c .len, h .0 .short, accepted-limits f e .longest .1) in
@@ -256,7 +243,9 @@ module _ (f : List ℕ) (e : checkOf f ≡ Accepted) where
   pub word-valued : (v : Word) → MatterWord (matterOf f) v → IsValue (wordOf v) × Carries (wordOf v) v
   word-valued v m =
       let n = accepted-limits f e in
-      (value-is v (omega (arith, m .short, n .longest .1)) (λ i. symbol-byte v (λ s o. omega (arith, alphabet-below (matterOf f .language) (matterOf f .labels) (m .over s o), n .labels .1)) i), value-carries v)
+      let small : (i : ℕ) → getD v i 0 < 256 =
+      getD-below 256 (omega arith) v (λ s o. omega (arith, alphabet-below (matterOf f .language) (matterOf f .labels) (m .over s o), n .labels .1)) in
+      (value-is v (omega (arith, m .short, n .longest .1)) small, value-carries v)
 
   permits-back : (a b : ℕ) → verdictOf (matterOf f) ≡ convertible → isPair (matterOf f .parties) a b ≡ true → permitReply f (bytesOf (matterOf f)) a b ≡ yesOrNo (permitted (matterOf f) (pair a b))
   unfolding bytesOf listOf

@@ -84,10 +84,11 @@ module _ {A : Type 0} where
       (λ q. let e : y ≡ x = cc (rw (q, firstBy) at h) in record { pre = []; post = ys; split = cc; here = rw (← e) q; before = λ m. absurd (List·Memᴰ·not-nil m) })
       (λ q. let r = find-some p ys (rw (q, firstBy) at h) in record { pre = y ∷ r .pre; post = r .post; split = ap (λ (l : List A). y ∷ l) (r .split); here = r .here; before = λ m. by-mem m (λ e. rw e q) (λ n. r .before n) })
 
+  pub first-in : {p : A → Bool} {l : List A} {x : A} → First p l x → List·Memᴰ x l
+  first-in r = rw (r .split) (Memᴰ·append-right (r .pre) (List·Memᴰ·head refl))
+
   pub find-in : (p : A → Bool) (l : List A) {x : A} → firstBy p l ≡ some x → List·Memᴰ x l
-  unfolding firstBy
-  find-in p [] h = clash (cc h)
-  find-in p (y ∷ ys) {x} h = by-test (p y) (λ q. List·Memᴰ·head (cc (rw (q, firstBy) at h))) (λ q. List·Memᴰ·tail (find-in p ys (rw (q, firstBy) at h)))
+  find-in p l h = first-in (find-some p l h)
 
   pub all-append : (p : A → Bool) (l m : List A) → allOf p (l ++ m) ≡ (allOf p l && allOf p m)
   unfolding allOf

@@ -12,7 +12,7 @@ use borrow.Author.Tests.{lt-ltb, le-leb, leb-true, leb-false}
 use Rattle.lists.specs.Lists.{anyOf, filterBy, firstBy, flatMap, upFrom, range}
 use Rattle.lists.specs.Order.{Ascending, Distinct, headOf, sumOf}
 use Rattle.lists.proofs.Cases.{by-test, by-found, by-mem, clash, both}
-use Rattle.lists.proofs.ListLaws.{filter-out, map-out, up-out, find-none, find-none-of, find-some, find-in}
+use Rattle.lists.proofs.ListLaws.{First, filter-out, map-out, up-out, find-none, find-none-of, find-some, find-in}
 
 -- k where the test passes, else 0
 abbrev pub onlyIf : Bool → ℕ → ℕ
@@ -58,14 +58,20 @@ module _ {A : Type 0} where
   ascending-distinct R i [] h = tt
   ascending-distinct R i (x ∷ l) h = (λ m. both (h .0 x m) (i x), ascending-distinct R i l (h .1))
 
-  -- in a list in order, the first that passes is the least that passes
+  ascending-after : (R : A → A → Bool) (l m : List A) (x y : A) → Ascending R (l ++ (x ∷ m)) → List·Memᴰ y m → R x y ≡ true
+  ascending-after R [] m x y s k = s .0 y k
+  ascending-after R (z ∷ l) m x y s k = ascending-after R l m x y (s .1) k
+
+  -- in a list in order, the first that passes comes before every other that does
+  pub first-before : (R : A → A → Bool) {p : A → Bool} {l : List A} {x : A} → First p l x → Ascending R l → (y : A) → List·Memᴰ y l → p y ≡ true → (x ≡ y) ⊎ (R x y ≡ true)
+  first-before R {p} {l} {x} r s y m h =
+      ⊎-elim
+      (λ k. both h (r .before k))
+      (λ k. by-mem k (λ e. inl (sym e)) (λ n. inr (ascending-after R (r .pre) (r .post) x y (rw (r .split) at s) n)))
+      (List·Memᴰ·append-cases (r .pre) (rw (r .split) at m))
+
   pub first-least : (R : A → A → Bool) (p : A → Bool) (l : List A) → Ascending R l → {c : A} → firstBy p l ≡ some c → {x : A} → List·Memᴰ x l → p x ≡ true → (c ≡ x) ⊎ (R c x ≡ true)
-  unfolding firstBy
-  first-least R p [] s e m h = absurd (List·Memᴰ·not-nil m)
-  first-least R p (y ∷ ys) s {c} e {x} m h =
-      by-test (p y)
-      (λ q. let z : y ≡ c = cc (rw (q, firstBy) at e) in by-mem m (λ r. inl (cc)) (λ n. inr (rw (← z) (s .0 x n))))
-      (λ q. by-mem m (λ r. both h (ap p r ∙ q)) (λ n. first-least R p ys (s .1) (rw (q, firstBy) at e) n h))
+  first-least R p l s e {x} m h = first-before R (find-some p l e) s x m h
 
   -- two lists in one order with the same members that pass have the same first that passes
   pub first-agree : (R : A → A → Bool) → ((x : A) → R x x ≡ false) → ((x y z : A) → R x y ≡ true → R y z ≡ true → R x z ≡ true) → (p : A → Bool) (l m : List A) → Ascending R l → Ascending R m → ((x : A) → p x ≡ true → List·Memᴰ x l → List·Memᴰ x m) → ((x : A) → p x ≡ true → List·Memᴰ x m → List·Memᴰ x l) → firstBy p l ≡ firstBy p m

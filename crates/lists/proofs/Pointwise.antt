@@ -6,7 +6,7 @@ use mathlib.Core.Option.{some}
 use Prim.Native.Nat.{ℕ, zero, suc, _+_, _-_, _≤_, _<_}
 use native.Mathlib.Omega.{arith}
 use lib.Dec.{eqb}
-use lib.ListN.{length}
+use lib.ListN.{length, getD}
 use borrow.Author.Tests.{eqb-true, eqb-false, not-true}
 use Rattle.lists.specs.Lists.{filterBy, firstBy, flatMap, upFrom, range}
 use Rattle.lists.specs.Order.{Distinct}
@@ -135,3 +135,9 @@ map-same f g (x ∷ l) h = rw (h x (List·Memᴰ·head refl), map-same f g l (λ
 pub map-append : {A B : Type 0} (f : A → B) (l m : List A) → map f (l ++ m) ≡ map f l ++ map f m
 map-append f [] m = refl
 map-append f (x ∷ l) m = rw (map-append f l m) refl
+
+-- numbers below a bound are so at every place, and past the end there is 0
+pub getD-below : (bound : ℕ) → 0 < bound → (l : List ℕ) → ((x : ℕ) → List·Memᴰ x l → x < bound) → (i : ℕ) → getD l i 0 < bound
+getD-below bound h [] f i = h
+getD-below bound h (x ∷ l) f zero = f x (List·Memᴰ·head refl)
+getD-below bound h (x ∷ l) f (suc i) = getD-below bound h l (λ y m. f y (List·Memᴰ·tail m)) i

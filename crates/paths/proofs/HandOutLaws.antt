@@ -56,12 +56,16 @@ module _ (f : List ℕ) (e : checkOf f ≡ Accepted) (a b : ℕ) (p : isPair (ma
   unfolding nextCall
   next-called v g size h =
       let c = carries v (few v g) in
-      rw e (next-answer (matterOf f) a b (value v) size p (value-legal (matterOf f) v (g .over) (g .short) (value v) c) h ∙ ap (λ (x : List ℕ). found (nextWord (matterOf f) (pair a b) x)) (c .symbols))
+      rw e
+      (next-answer (matterOf f) a b (value v) size p (value-legal (matterOf f) v (g .over) (g .short) (value v) c) h
+      ∙ ap (λ (x : List ℕ). found (nextWord (matterOf f) (pair a b) x)) (c .symbols))
 
   ended : List (List ℕ) → HandedOut
   ended l = record { words = l; last = Nothing }
 
-  hands-out : (k : ℕ) (v output : List ℕ) → Given v → 31 ≤ length output → wordsLeft (matterOf f) (pair a b) v < k → handOut value f a b k v output ≡ ended (handedOut (nextWord (matterOf f) (pair a b)) k v)
+  hands-out :
+      (k : ℕ) (v output : List ℕ) → Given v → 31 ≤ length output → wordsLeft (matterOf f) (pair a b) v < k
+      → handOut value f a b k v output ≡ ended (handedOut (nextWord (matterOf f) (pair a b)) k v)
   unfolding handOut handedOut ended
   hands-out zero v output g h l = absurd (omega arith)
   hands-out (suc k) v output g h l =
@@ -76,7 +80,9 @@ module _ (f : List ℕ) (e : checkOf f ≡ Accepted) (a b : ℕ) (p : isPair (ma
       rw (q, n, handedOut, take-append-seam w (drop (length w) output), r) refl)
 
   -- begun with the empty word it hands out the words of the pair, and ends
-  pub next-handed : (output : List ℕ) → 31 ≤ length output → (k : ℕ) → length (pairWords (matterOf f) (pair a b)) < k → handOut value f a b k [] output ≡ record { words = pairWords (matterOf f) (pair a b); last = Nothing }
+  pub next-handed :
+      (output : List ℕ) → 31 ≤ length output → (k : ℕ) → length (pairWords (matterOf f) (pair a b)) < k
+      → handOut value f a b k [] output ≡ record { words = pairWords (matterOf f) (pair a b); last = Nothing }
   unfolding ended wordsLeft
   next-handed output h k l =
       hands-out k [] output (record { over = λ s m. absurd (List·Memᴰ·not-nil m); short = omega arith }) h (omega (arith, filter-length (before []) (pairWords (matterOf f) (pair a b))))

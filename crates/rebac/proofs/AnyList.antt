@@ -28,7 +28,9 @@ module _ (M : Matter) where
   inUse w = leb 1 (length w) && allOf (inLanguage M) w
 
   has-in-use : (p : Pair) → List·Memᴰ p (pairsOf (M .parties)) → (w : Word) → has (enlarged M) p w ≡ true → inUse w ≡ true
-  has-in-use p m w h = and-both (le-leb 1 (length w) (has-some (enlarged M) p (pairs-out (M .parties) m .different) w h)) (all-of (inLanguage M) w (λ s n. listed-language M s (pair-word-over M p w h s n)))
+  has-in-use p m w h =
+      and-both (le-leb 1 (length w) (has-some (enlarged M) p (pairs-out (M .parties) m .different) w h))
+      (all-of (inLanguage M) w (λ s n. listed-language M s (pair-word-over M p w h s n)))
 
   -- words in use of at most D symbols are the matter's
   in-use-word : (w : Word) → inUse w ≡ true → length w ≤ M .longest → MatterWord M w

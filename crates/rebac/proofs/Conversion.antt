@@ -164,7 +164,9 @@ module _ (M : Matter) where
           counts = λ i n. let v = map-out one (s .0) n in rw (v .2) (omega arith);
           listed = λ i n. let v = map-out one (s .0) n in rw (v .2) (words-listed (alphabet (M .language) (M .labels)) (M .longest) (v .0) (c .fits (s .0) (s .1) (v .0) (v .1)));
         });
-        exact = λ p m. permits-one p (ones r) (λ t k i n. let s = map-out (λ t. map one t) r k in let v = map-out one (s .0) (rw (s .2) at n) in rw (v .2)) ∙ rw (plain-ones r) (c .any .exact p m);
+        exact = λ p m.
+            permits-one p (ones r) (λ t k i n. let s = map-out (λ t. map one t) r k in let v = map-out one (s .0) (rw (s .2) at n) in rw (v .2))
+            ∙ rw (plain-ones r) (c .any .exact p m);
       })
 
   module _ (cap : capOf (M .language) ≡ 1) where

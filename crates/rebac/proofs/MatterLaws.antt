@@ -24,7 +24,13 @@ use Rattle.rebac.proofs.SearchLaws.{long-word, count-more}
 -- Lemma 4.4, for the four languages at once: the path variations of Definition 4.1 are the paths of the enlarged graph
 pub lemma-4-4 : (M : Matter) (p : Pair) (ts : List (Triple ℕ)) → VariationPath M p ts ↔ TriplePath (enlarged M) p ts
 lemma-4-4 M p ts = (
-  λ r. record { different = r .different; linked = r .linked; simple = r .simple; edges = λ t m. holds-in M (t .start) (t .finish) (t .symbol) (r .admitted t m); inside = λ t m. r .admitted t m .second },
+  λ r. record {
+    different = r .different;
+    linked = r .linked;
+    simple = r .simple;
+    edges = λ t m. holds-in M (t .start) (t .finish) (t .symbol) (r .admitted t m);
+    inside = λ t m. r .admitted t m .second;
+  },
   λ r. record { different = r .different; linked = r .linked; simple = r .simple; admitted = λ t m. holds-out M (t .start) (t .finish) (t .symbol) (r .edges t m) },
 )
 
@@ -41,7 +47,9 @@ pub matter-long-word : (M : Matter) (p : Pair) (w : Word) → List·Memᴰ p (pa
 matter-long-word M p w m h = long-word (enlarged M) p w (pairs-out (M .parties) m .first) h
 
 -- every relation of a pair is a word of the pair, the label's plain symbol, whatever relations the pair has besides
-pub relation-word : (M : Matter) (p : Pair) (label : ℕ) → IsPair (M .parties) p → 1 ≤ M .longest → label < M .labels → M .edge (p .first) (p .second) label ≡ true → List·Memᴰ ((4 * label + 0) ∷ []) (pairWords M p)
+pub relation-word :
+    (M : Matter) (p : Pair) (label : ℕ) → IsPair (M .parties) p → 1 ≤ M .longest → label < M .labels → M .edge (p .first) (p .second) label ≡ true
+    → List·Memᴰ ((4 * label + 0) ∷ []) (pairWords M p)
 relation-word M p label i d l e =
     let h : holds M (p .first) (p .second) (4 * label + 0) ≡ true =
     holds-in M (p .first) (p .second) (4 * label + 0) (record { first = i .first; second = i .second; different = i .different; row = plain label l refl e }) in

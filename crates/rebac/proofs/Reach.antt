@@ -153,7 +153,9 @@ module _ {S : Type 0} (g : Graph S) where
   -- the paths listed are the paths
   pub paths-in : (p : Pair) (w : List S) (via : List ℕ) → Path g p w via → List·Memᴰ (p .first ∷ via) (pathsOf g p w)
   unfolding pathsOf
-  paths-in p w via r = map-in (λ l. p .first ∷ l) (routes g (p .first ∷ []) (p .first) (p .second) w) (routes-in (p .first ∷ []) (p .first) (p .second) w via (walk-onward p w via (path-walk p w via r)))
+  paths-in p w via r =
+      map-in (λ l. p .first ∷ l) (routes g (p .first ∷ []) (p .first) (p .second) w)
+      (routes-in (p .first ∷ []) (p .first) (p .second) w via (walk-onward p w via (path-walk p w via r)))
 
   pub walks-out : (p : Pair) (w : List S) {l : List ℕ} → List·Memᴰ l (pathsOf g p w) → (via : List ℕ) × (l ≡ p .first ∷ via) × SimpleWalk p w via
   unfolding pathsOf

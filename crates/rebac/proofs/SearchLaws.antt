@@ -158,4 +158,5 @@ module _ {S : Type 0} (g : Graph S) (f : ℕ → ℕ) (inside : (u : ℕ) → u 
   pub has-carried : (p : Pair) (w : List S) → has g p w ≡ true → has g (pair (f (p .first)) (f (p .second))) w ≡ true
   has-carried p w e =
       let r = has-walk g p w e in
-      walk-has g (pair (f (p .first)) (f (p .second))) w (map f (r .0)) (record { walk = carry-walk (p .first) (p .second) (r .0) w (r .1 .walk); simple = carry-distinct (p .first ∷ r .0) (r .1 .simple) })
+      walk-has g (pair (f (p .first)) (f (p .second))) w (map f (r .0))
+      (record { walk = carry-walk (p .first) (p .second) (r .0) w (r .1 .walk); simple = carry-distinct (p .first ∷ r .0) (r .1 .simple) })

@@ -54,7 +54,9 @@ apart-out M u v e =
     )
 
 -- Definition 4.3: between two different parties a symbol of the language holds as its kind says
-pub holds-table : (M : Matter) (u v label kind : ℕ) → u < M .parties → v < M .parties → (u ≡ v → ⊥) → label < M .labels → List·Memᴰ kind (kinds (M .language)) → holds M u v (4 * label + kind) ≡ kindHolds M u v label kind
+pub holds-table :
+    (M : Matter) (u v label kind : ℕ) → u < M .parties → v < M .parties → (u ≡ v → ⊥) → label < M .labels → List·Memᴰ kind (kinds (M .language))
+    → holds M u v (4 * label + kind) ≡ kindHolds M u v label kind
 unfolding holds apart inLanguage
 holds-table M u v label kind a b c d m =
     let k : kind < 4 = kinds-below (M .language) m in
@@ -109,7 +111,9 @@ absent-inverse-ticked (suc (suc zero)) e = clash (sym e)
 absent-inverse-ticked (suc (suc (suc g))) e = omega arith
 
 -- a symbol that holds is in the row of its kind
-row-of : (M : Matter) (u v s label kind : ℕ) → label < M .labels → s ≡ 4 * label + kind → kind < 4 → member kind (kinds (M .language)) ≡ true → kindHolds M u v label kind ≡ true → TableRow M u v s
+row-of :
+    (M : Matter) (u v s label kind : ℕ) → label < M .labels → s ≡ 4 * label + kind → kind < 4 → member kind (kinds (M .language)) ≡ true
+    → kindHolds M u v label kind ≡ true → TableRow M u v s
 unfolding kindHolds
 row-of M u v s label zero l q k m e = plain label l q e
 row-of M u v s label (suc zero) l q k m e = absent label l q (not-true (M .edge u v label) e) (absent-ticked (M .language) m)
@@ -127,7 +131,8 @@ holds-out M u v s e =
       first = a .0;
       second = a .1;
       different = a .2;
-      row = row-of M u v s (s / 4) (s % 4) (ltb-true (s / 4) (M .labels) (and-left (ltb (s / 4) (M .labels)) _ l)) (join-symbol s) (omega arith) (and-right (ltb (s / 4) (M .labels)) _ l) (and-right (inLanguage M s) _ b);
+      row = row-of M u v s (s / 4) (s % 4) (ltb-true (s / 4) (M .labels) (and-left (ltb (s / 4) (M .labels)) _ l)) (join-symbol s) (omega arith)
+          (and-right (ltb (s / 4) (M .labels)) _ l) (and-right (inLanguage M s) _ b);
     }
 
 -- and a symbol in a row holds

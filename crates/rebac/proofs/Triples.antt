@@ -95,11 +95,21 @@ module _ {S : Type 0} (g : Graph S) where
   pub path-triples : (p : Pair) (w : List S) (via : List ℕ) → Path g p w via → TriplePath g p (triples (p .first) via w)
   path-triples p w via r =
       let e = each-edge (p .first) (p .second) via w (r .walk) in
-      record { different = path-ends p w via r; linked = linked-of (p .first) (p .second) via w (r .walk); simple = no-return-of (p .first) (p .second) via w (r .walk) (r .simple); edges = λ t m. e t m .0; inside = λ t m. e t m .1 }
+      record {
+        different = path-ends p w via r;
+        linked = linked-of (p .first) (p .second) via w (r .walk);
+        simple = no-return-of (p .first) (p .second) via w (r .walk) (r .simple);
+        edges = λ t m. e t m .0;
+        inside = λ t m. e t m .1;
+      }
 
   pub triples-path : ((u : ℕ) (s : S) → g .edge u u s ≡ false) → (p : Pair) (ts : List (Triple S)) → TriplePath g p ts → Path g p (pathLabel ts) (finishes ts)
   triples-path loop p ts r =
-      record { some = linked-some (p .first) (p .second) ts (r .different) (r .linked); walk = walk-of (p .first) (p .second) ts (r .linked) (λ t m. (r .edges t m, r .inside t m)); simple = distinct-of loop (p .first) (p .second) ts (r .linked) (r .simple) (r .edges) }
+      record {
+        some = linked-some (p .first) (p .second) ts (r .different) (r .linked);
+        walk = walk-of (p .first) (p .second) ts (r .linked) (λ t m. (r .edges t m, r .inside t m));
+        simple = distinct-of loop (p .first) (p .second) ts (r .linked) (r .simple) (r .edges);
+      }
 
   -- Definitions 3.4 and 3.5 against 01's sentence: the same words
   pub same-paths : ((u : ℕ) (s : S) → g .edge u u s ≡ false) → (p : Pair) (w : List S) → HasPath g p w ↔ ((ts : List (Triple S)) × TriplePath g p ts × (pathLabel ts ≡ w))

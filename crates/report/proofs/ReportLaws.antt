@@ -108,7 +108,9 @@ put-tail : (b y : List ℕ) (at : ℕ) → at ≤ length b → putMid at (length
 put-tail b y at h =
     ap (λ (z : List ℕ). take at b ++ (y ++ z)) (drop-of-length-le (drop at b) {i = length b - at} (omega (arith, length-drop at b))) ∙ ap (λ (z : List ℕ). take at b ++ z) (append-nil y)
 
-pub wrote-tail : (b : List ℕ) (at : ℕ) {x new : List ℕ} {end : ℕ} → at ≤ length b → Wrote (midOf at (length b - at) b) 0 x new end → Wrote b at x (putMid at (length b - at) b new) (at + end)
+pub wrote-tail :
+    (b : List ℕ) (at : ℕ) {x new : List ℕ} {end : ℕ} → at ≤ length b → Wrote (midOf at (length b - at) b) 0 x new end
+    → Wrote b at x (putMid at (length b - at) b new) (at + end)
 wrote-tail b at {x} {new} {end} h w = record {
   bytes = put-tail b new at h ∙ ap (λ (l : List ℕ). take at b ++ l) (w .bytes ∙ ap (λ (l : List ℕ). put l 0 x) (part-to-end b at)) ∙ tail-put b at x;
   place = omega (arith, w .place);
@@ -125,7 +127,9 @@ module _ (f : List ℕ) {v : VerdictReply} (e : verdictCall f ≡ v) {old new : 
       let t : fileText f ≡ verdictLine v = text-by f v e ∙ ap (λ (l : List ℕ). verdictLine v ++ l) n ∙ append-nil (verdictLine v) in
       (rw t w, wrote-inside w)
 
-  pub line-then-list : {out : List ℕ} {last : ℕ} → Wrote old 0 (verdictLine v) out end → Wrote out end (listPart (matterOf f) v) new last → Wrote old 0 (fileText f) new last × Inside last new
+  pub line-then-list :
+      {out : List ℕ} {last : ℕ} → Wrote old 0 (verdictLine v) out end → Wrote out end (listPart (matterOf f) v) new last
+      → Wrote old 0 (fileText f) new last × Inside last new
   line-then-list w p =
       let q = wrote-two w p (omega arith) in
       (rw (text-by f v e) q, wrote-inside q)

@@ -3,18 +3,19 @@ use mathlib.Core.Path.{_≡_, refl, sym, ap, _∙_}
 use mathlib.Core.Bool.{true}
 use mathlib.Core.List.{List, [], _∷_, _++_, append-assoc, append-nil, List·Memᴰ, List·Memᴰ·head, List·Memᴰ·tail}
 use mathlib.Core.Option.{Option, none, some}
-use mathlib.Core.Logic.{by-cases}
-use Prim.Native.Nat.{ℕ, zero, suc, _+_, _/_, _-_, _≤_, _<_}
-use native.Mathlib.Decide.{decLt}
+use Prim.Native.Nat.{ℕ, _+_, _/_, _-_, _≤_, _<_}
 use native.Mathlib.Omega.{arith}
-use lib.ListN.{length, take, drop, getD, replicate, length-append, length-drop, List·getD-append, length-replicate}
-use lib.Seq.{take-append-seam, drop-append-seam, getD-append-add, getD-drop}
+use lib.ListN.{length, take, drop, getD, length-append, length-drop}
+use lib.Seq.{take-append-seam, drop-append-seam, getD-drop}
 use lib.Dec.{leb, ltb}
 use borrow.Author.Tests.{leb-true, ltb-true}
 use Rattle.lists.specs.Lists.{allOf, flatMap}
 use Rattle.lists.proofs.Cases.{and-left, and-right}
 use Rattle.house_layout.specs.Layout.{u16At}
-use Rattle.search.specs.Word.{symbolsIn, Short, wordOf}
+use Rattle.lists.proofs.ListLaws.{all-in}
+use Rattle.lists.proofs.Pointwise.{getD-below}
+use Rattle.search.proofs.ValueLaws.{value-full, value-below}
+use Rattle.search.specs.Word.{Short, wordOf}
 use Rattle.rule_bytes.specs.ListBytes.{encodeCount, encodeWord, encodeTerm, encodeList, Parsed, parsed, decodeCount, legalWord, LegalList}
 use Rattle.graph.specs.Legal.{legalSymbol}
 use Rattle.rule_bytes.specs.Reading.{WordFits, wordAt, FitWord, FitTerm, FitList, TermAt, IsList}
@@ -81,25 +82,8 @@ module _ (b : List ℕ) (at : ℕ) (w s : List ℕ) (here : drop at b ≡ encode
   word-fits f = record { place = omega (arith, word-room); small = omega (arith, word-byte, f .len); end = omega (arith, word-byte, word-room) }
 
 -- the word value of a word that fits
-zero-after : (k i : ℕ) → _≡_ {A = ℕ} (getD (replicate k 0) i 0) 0
-zero-after zero i = refl
-zero-after (suc k) zero = refl
-zero-after (suc k) (suc i) = zero-after k i
-
-pub word-symbols : (w : List ℕ) → symbolsIn (wordOf w) ≡ w
-word-symbols w = take-append-seam w (replicate (31 - length w) 0)
-
 pub word-short : (w : List ℕ) → FitWord w → Short (wordOf w)
-word-short w f = record {
-  len = f .len;
-  full = length-append w (replicate (31 - length w) 0) ∙ omega (arith, length-replicate {A = ℕ} (31 - length w) 0, f .len);
-  symbols = λ i short. by-cases (decLt i (length w))
-      (λ h. rw (List·getD-append w (replicate (31 - length w) 0) 0 i h) (f .symbols i))
-      (λ h.
-      let z : i ≡ length w + (i - length w) = omega (arith, h) in
-      let k : getD (w ++ replicate (31 - length w) 0) (length w + (i - length w)) 0 ≡ 0 = getD-append-add w (replicate (31 - length w) 0) (i - length w) 0 ∙ zero-after (31 - length w) (i - length w) in
-      rw z (omega (arith, k)));
-}
+word-short w f = record { len = f .len; full = value-full w (f .len); symbols = λ i short. value-below 32 (omega arith) w (f .symbols) i }
 
 -- a count at a place
 abbrev countIn : Option (Parsed ℕ) → ℕ
@@ -145,10 +129,11 @@ list-ahead b l h =
 -- a legal list fits, by the limits of L and D
 module _ (labels language longest : ℕ) (few : labels ≤ 8) (short : longest ≤ 31) where
   symbols-small : (w : List ℕ) → allOf (legalSymbol labels language) w ≡ true → (i : ℕ) → getD w i 0 < 32
-  unfolding allOf legalSymbol
-  symbols-small [] h i = omega arith
-  symbols-small (x ∷ w) h zero = let k : x / 4 < labels = ltb-true _ _ (and-left (ltb (x / 4) labels) _ (and-left (legalSymbol labels language x) _ h)) in omega arith
-  symbols-small (x ∷ w) h (suc i) = symbols-small w (and-right (legalSymbol labels language x) _ h) i
+  unfolding legalSymbol
+  symbols-small w h =
+      getD-below 32 (omega arith) w (λ s m.
+      let k : s / 4 < labels = ltb-true _ _ (and-left (ltb (s / 4) labels) _ (all-in (legalSymbol labels language) w h m)) in
+      omega arith)
 
   pub word-legal-fits : (w : List ℕ) → legalWord labels language longest w ≡ true → FitWord w
   unfolding legalWord

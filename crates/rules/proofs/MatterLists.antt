@@ -46,7 +46,9 @@ module _ (M : Matter) where
       some = leb-true 1 (length w) (and-left _ _ h);
       short = leb-true (length w) (M .longest) (and-left _ _ k);
     },
-    λ h. rw (le-leb 1 (length w) (h .some), le-leb (length w) (M .longest) (h .short)) (all-of (legalSymbol (M .labels) (M .language)) w (λ s m. legal-symbol M s ∙ listed-language M s (h .over s m))),
+    λ h.
+        rw (le-leb 1 (length w) (h .some), le-leb (length w) (M .longest) (h .short))
+        (all-of (legalSymbol (M .labels) (M .language)) w (λ s m. legal-symbol M s ∙ listed-language M s (h .over s m))),
   )
 
   -- a list that converts the matter is legal where its counts fit two bytes

@@ -8,21 +8,25 @@ use native.Mathlib.Omega.{arith}
 use lib.ListN.{length, getD, replicate, length-append, length-replicate, List·getD-append}
 use lib.Seq.{take-append-seam, getD-append-add}
 use Rattle.masks.proofs.TableLaws.{getD-zeros}
-use Rattle.search.specs.Word.{wordOf, IsValue, Carries}
+use Rattle.search.specs.Word.{symbolsIn, wordOf, IsValue, Carries}
 
-pub value-carries : (v : List ℕ) → Carries (wordOf v) v
-value-carries v = record { len = refl; symbols = take-append-seam v (replicate (31 - length v) 0) }
+pub word-symbols : (w : List ℕ) → symbolsIn (wordOf w) ≡ w
+word-symbols w = take-append-seam w (replicate (31 - length w) 0)
 
-pub value-full : (v : List ℕ) → length v ≤ 31 → length (wordOf v .symbols) ≡ 31
-value-full v h = omega (arith, length-append v (replicate (31 - length v) 0), length-replicate {A = ℕ} (31 - length v) 0)
+pub value-carries : (w : List ℕ) → Carries (wordOf w) w
+value-carries w = record { len = refl; symbols = word-symbols w }
 
--- bytes, where the symbols are
-pub value-is : (v : List ℕ) → length v ≤ 31 → ((i : ℕ) → getD v i 0 < 256) → IsValue (wordOf v)
-value-is v h f = record {
-  full = value-full v h;
-  bytes = λ i. by-cases (decLt i (length v))
-      (λ k. rw (List·getD-append v (replicate (31 - length v) 0) 0 i k) (f i))
-      (λ k.
-      let j : i ≡ length v + (i - length v) = omega arith in
-      rw (j, getD-append-add v (replicate (31 - length v) 0) (i - length v) 0, getD-zeros (31 - length v) (i - length v)) (omega arith));
-}
+pub value-full : (w : List ℕ) → length w ≤ 31 → length (wordOf w .symbols) ≡ 31
+value-full w h = omega (arith, length-append w (replicate (31 - length w) 0), length-replicate {A = ℕ} (31 - length w) 0)
+
+-- what bounds the symbols bounds the value's 31
+pub value-below : (bound : ℕ) → 0 < bound → (w : List ℕ) → ((i : ℕ) → getD w i 0 < bound) → (i : ℕ) → getD (wordOf w .symbols) i 0 < bound
+value-below bound h w f i =
+    by-cases (decLt i (length w))
+    (λ k. rw (List·getD-append w (replicate (31 - length w) 0) 0 i k) (f i))
+    (λ k.
+    let j : i ≡ length w + (i - length w) = omega arith in
+    rw (j, getD-append-add w (replicate (31 - length w) 0) (i - length w) 0, getD-zeros (31 - length w) (i - length w)) h)
+
+pub value-is : (w : List ℕ) → length w ≤ 31 → ((i : ℕ) → getD w i 0 < 256) → IsValue (wordOf w)
+value-is w h f = record { full = value-full w h; bytes = value-below 256 (omega arith) w f }

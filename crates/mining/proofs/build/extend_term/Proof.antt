@@ -26,7 +26,8 @@ use Rattle.rule_bytes.specs.ListBytes.{encodeTerm}
 use Rattle.rule_bytes.specs.Writing.{put}
 use Rattle.lists.proofs.OrderLaws.{length-map}
 use Rattle.rule_bytes.specs.declared.read.WordRead.{WordRead}
-use Rattle.rule_bytes.proofs.PlaceLaws.{word-fits, word-value, word-short, word-symbols}
+use Rattle.search.proofs.ValueLaws.{word-symbols}
+use Rattle.rule_bytes.proofs.PlaceLaws.{word-fits, word-value, word-short}
 use Rattle.rules.proofs.MeetLaws.{TermSoFar, meet-start, meet-entry, meet-next, meet-end}
 use Rattle.lists.proofs.Cases.{and-left}
 use Rattle.mining.specs.Building.{problemIn, encodedTerm, termBytes}

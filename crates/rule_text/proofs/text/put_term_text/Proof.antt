@@ -8,7 +8,8 @@ use Rattle.search.specs.Word.{symbolsIn}
 use Rattle.search.specs.declared.word.Word.{Word}
 use Rattle.rule_bytes.specs.Reading.{TermAt}
 use Rattle.rule_bytes.specs.declared.read.WordRead.{WordRead}
-use Rattle.rule_bytes.proofs.PlaceLaws.{term-room, word-fits, word-value, word-symbols}
+use Rattle.search.proofs.ValueLaws.{word-symbols}
+use Rattle.rule_bytes.proofs.PlaceLaws.{term-room, word-fits, word-value}
 use Rattle.rule_text.proofs.TextLaws.{TermTextSoFar, term-text-start, word-entry, entry-room, term-text-next, term-text-end}
 use borrow.Author.Needs.{needs}
 use Rattle.rule_text.proofs.text.put_term_text.Statement.{statement}

@@ -13,7 +13,8 @@ use Rattle.search.specs.Word.{symbolsIn, wordOf}
 use Rattle.rule_bytes.specs.Reading.{TermAt}
 use Rattle.rules.specs.Permit.{meetsTerm}
 use Rattle.rule_bytes.specs.declared.read.WordRead.{WordRead}
-use Rattle.rule_bytes.proofs.PlaceLaws.{term-room, word-fits, word-value, word-short, word-symbols}
+use Rattle.search.proofs.ValueLaws.{word-symbols}
+use Rattle.rule_bytes.proofs.PlaceLaws.{term-room, word-fits, word-value, word-short}
 use Rattle.rules.proofs.MeetLaws.{TermSoFar, meet-start, meet-entry, meet-next, meet-end}
 use borrow.Author.Needs.{needs}
 use Rattle.rules.proofs.call.meets_term.Statement.{statement}
