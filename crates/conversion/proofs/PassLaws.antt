@@ -28,8 +28,10 @@ use Rattle.graph.specs.declared.Archive.{Archive}
 use Rattle.graph.specs.Archive.{Shows}
 use Rattle.graph.specs.Legal.{isPair}
 use Rattle.graph.proofs.LegalLaws.{pair-of}
-use Rattle.rule_bytes.specs.ListBytes.{encodeCount, encodeTerm, encodeList}
-use Rattle.rule_bytes.proofs.RoundTrip.{count-size, terms-more}
+use Rattle.fields.specs.Numbers.{u16Bytes}
+use Rattle.rule_bytes.specs.ListBytes.{encodeTerm, encodeList}
+use Rattle.fields.proofs.NumberLaws.{count-size}
+use Rattle.rule_bytes.proofs.RoundTrip.{terms-more}
 use Rattle.mining.specs.Pairs.{pairAt, isPairAt, pairsFrom}
 use Rattle.mining.specs.Building.{problemIn, named, encodedTerm, termBytes}
 use Rattle.mining.specs.Taking.{Marks, due, JudgedAs}
@@ -93,12 +95,12 @@ terms-add r t = rw (plain-more r t) (terms-more (plainList r) (plainTerm t))
 terms-add-size : (r : RuleList Word) (t : Term Word) → length (termsOf (r ++ (t ∷ []))) ≡ length (termsOf r) + length (encodedTerm t)
 terms-add-size r t = ap length (terms-add r t) ∙ length-append (termsOf r) (encodedTerm t)
 
-pub list-bytes : (r : RuleList Word) → encodeList (plainList r) ≡ encodeCount (length r) ++ termsOf r
+pub list-bytes : (r : RuleList Word) → encodeList (plainList r) ≡ u16Bytes (length r) ++ termsOf r
 unfolding encodeList
-list-bytes r = ap (λ (n : ℕ). encodeCount n ++ termsOf r) (length-map plainTerm r)
+list-bytes r = ap (λ (n : ℕ). u16Bytes n ++ termsOf r) (length-map plainTerm r)
 
 pub list-length : (r : RuleList Word) → length (encodeList (plainList r)) ≡ 2 + length (termsOf r)
-list-length r = ap length (list-bytes r) ∙ omega (arith, length-append (encodeCount (length r)) (termsOf r), count-size (length r))
+list-length r = ap length (list-bytes r) ∙ omega (arith, length-append (u16Bytes (length r)) (termsOf r), count-size (length r))
 
 terms-grow : (S : Problem Pair Word) (r : RuleList Word) (ps : List Pair) → length (termsOf r) ≤ length (termsOf (mineFrom S r ps))
 unfolding mineFrom

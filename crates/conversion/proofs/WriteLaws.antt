@@ -16,9 +16,10 @@ use Rattle.rebac.specs.Mining.{termOf, mine}
 use Rattle.rebac.specs.Existence.{plainList}
 use Rattle.graph.specs.declared.Archive.{Archive}
 use Rattle.graph.specs.Archive.{Shows}
-use Rattle.rule_bytes.specs.ListBytes.{encodeCount, encodeList}
+use Rattle.fields.specs.Numbers.{u16Bytes}
+use Rattle.rule_bytes.specs.ListBytes.{encodeList}
 use Rattle.rule_bytes.specs.Writing.{put}
-use Rattle.rule_bytes.proofs.RoundTrip.{count-size}
+use Rattle.fields.proofs.NumberLaws.{count-size}
 use Rattle.rule_bytes.proofs.PutLaws.{put-nil, put-put, put-before, put-length}
 use Rattle.mining.specs.Pairs.{pairAt}
 use Rattle.mining.specs.Building.{problemIn, termBytes}
@@ -75,14 +76,14 @@ module _ (M : Matter) (a : Archive) (s : Shows M a) (v : verdict (problemIn a) �
         })
 
 -- past the last pair the number before the terms makes the list
-pub write-end : (a : Archive) (old out : List ℕ) (l : RuleList Word) (row : Row) (number end k : ℕ) → 32 * a .parties ≤ k → length (archiveBytes a) ≤ length old → Writing a old out l row number end k → put out 0 (encodeCount number) ≡ archiveBytes a ++ drop (length (archiveBytes a)) old
+pub write-end : (a : Archive) (old out : List ℕ) (l : RuleList Word) (row : Row) (number end k : ℕ) → 32 * a .parties ≤ k → length (archiveBytes a) ≤ length old → Writing a old out l row number end k → put out 0 (u16Bytes number) ≡ archiveBytes a ++ drop (length (archiveBytes a)) old
 unfolding archiveBytes
 write-end a old out l row number end k past room W =
     let e : l ≡ mine (problemIn a) = pass-end a l row end k past (W .pass) .0 in
     let c = count-size number in
-    let q : archiveBytes a ≡ encodeCount number ++ termsOf l = ap (λ (r : RuleList Word). encodeList (plainList r)) (sym e) ∙ list-bytes l ∙ ap (λ (n : ℕ). encodeCount n ++ termsOf l) (sym (W .terms)) in
-    let n : 0 + length (encodeCount number) ≡ 2 = omega (arith, c) in
-    ap (λ (o : List ℕ). put o 0 (encodeCount number)) (W .bytes ∙ ap (λ (i : ℕ). put old i (termsOf l)) (sym n))
-    ∙ put-before old 0 (encodeCount number) (termsOf l) (omega (arith, c, ap length q, length-append (encodeCount number) (termsOf l), room))
+    let q : archiveBytes a ≡ u16Bytes number ++ termsOf l = ap (λ (r : RuleList Word). encodeList (plainList r)) (sym e) ∙ list-bytes l ∙ ap (λ (n : ℕ). u16Bytes n ++ termsOf l) (sym (W .terms)) in
+    let n : 0 + length (u16Bytes number) ≡ 2 = omega (arith, c) in
+    ap (λ (o : List ℕ). put o 0 (u16Bytes number)) (W .bytes ∙ ap (λ (i : ℕ). put old i (termsOf l)) (sym n))
+    ∙ put-before old 0 (u16Bytes number) (termsOf l) (omega (arith, c, ap length q, length-append (u16Bytes number) (termsOf l), room))
     ∙ ap (put old 0) (sym q)
     ∙ put-first old (archiveBytes a)

@@ -11,7 +11,8 @@ use borrow.Author.Tests.{eq-eqb, ne-eqb, eqb-true, le-leb, leb-true, lt-ltb, le-
 use Rattle.lists.specs.Lists.{allOf, member, upFrom}
 use Rattle.lists.proofs.Cases.{and-left, and-right, and-both}
 use Rattle.lists.proofs.ListLaws.{all-in, all-of, up-in, up-out, member-in, member-out}
-use Rattle.house_layout.specs.Layout.{byteAt, partiesOf, labelsOf, languageOf, longestOf, recordsOf, sizeOf, recordOf}
+use Rattle.fields.specs.Numbers.{byteAt}
+use Rattle.house_layout.specs.Layout.{partiesOf, labelsOf, languageOf, longestOf, recordsOf, sizeOf, recordOf}
 use Rattle.house_layout.specs.Reply.{refuse}
 use Rattle.house_layout.specs.Fields.{within, fieldsInRange}
 use Rattle.house_file.specs.Check.{Walk, stopped, passed, walkChains, reachedAll, chainsCheck, checkOf}

@@ -8,7 +8,8 @@ use lib.ListN.{length}
 use lib.Dec.{eqb, ltb}
 use Rattle.lists.specs.Lists.{anyOf, pick}
 use Rattle.lists.specs.Order.{Distinct}
-use Rattle.house_layout.specs.Layout.{byteAt, partiesOf, labelsOf, languageOf, longestOf, recordsOf, sizeOf, headOf, recordOf, permitKind}
+use Rattle.fields.specs.Numbers.{byteAt}
+use Rattle.house_layout.specs.Layout.{partiesOf, labelsOf, languageOf, longestOf, recordsOf, sizeOf, headOf, recordOf, permitKind}
 use Rattle.house_file.specs.Check.{says}
 
 -- the records from r on, as far as each number names one

@@ -4,13 +4,13 @@ ghost use mathlib.Core.List.{List};
 ghost use Prim.Native.Nat.{ℕ, _<_};
 ghost use lib.ListN.{length};
 ghost use Rattle.house_file.specs.Reading.{Framed, Marks, ChainRead};
+use fields::u16_at;
 use house_layout::Check;
 use house_layout::Header;
 use house_layout::Refusal;
 use house_layout::bit_of;
 use house_layout::check_record;
 use house_layout::read_record;
-use house_layout::u16_at;
 use masks::Row;
 
 pub struct Chain {

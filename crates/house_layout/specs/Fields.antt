@@ -3,7 +3,8 @@ use Prim.Native.Nat.{ℕ}
 use mathlib.Core.Bool.{Bool, not, _&&_, _||_}
 use mathlib.Core.List.{List}
 use lib.Dec.{eqb, ltb, leb}
-use Rattle.house_layout.specs.Layout.{byteAt, partiesOf, labelsOf, languageOf, longestOf, recordsOf, permitKind}
+use Rattle.fields.specs.Numbers.{byteAt}
+use Rattle.house_layout.specs.Layout.{partiesOf, labelsOf, languageOf, longestOf, recordsOf, permitKind}
 use Rattle.house_layout.specs.Reply.{refuse}
 use Rattle.house_layout.specs.declared.reply.Refusal.the-variants.{Again, Target, Kind, Repeat}
 use Rattle.house_layout.specs.declared.reply.Check.{Check}

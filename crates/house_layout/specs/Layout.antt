@@ -1,16 +1,9 @@
 -- Where the fields of a house file stand (01, "The house file", edition 1).
 use Prim.Native.Nat.{ℕ, _+_, _*_, _-_}
 use mathlib.Core.List.{List}
-use lib.ListN.{getD}
+use Rattle.fields.specs.Numbers.{byteAt, u16At}
 use Rattle.house_layout.specs.declared.header.Header.{Header}
 use Rattle.house_layout.specs.declared.record.Record.{Record}
-
-abbrev pub byteAt : List ℕ → ℕ → ℕ
-byteAt f i = getD f i 0
-
--- a two-byte field, low byte first
-unfoldable pub u16At : List ℕ → ℕ → ℕ
-u16At f i = byteAt f i + byteAt f (i + 1) * 256
 
 -- the header's numbers: n, L, language, D, R
 abbrev pub partiesOf : List ℕ → ℕ

@@ -1,9 +1,11 @@
 // The header: its fields, their ranges, and the length that it says.
 ghost use mathlib.Core.Path.{_≡_};
-ghost use Prim.Native.Nat.{_+_, _≤_, _<_};
+ghost use Prim.Native.Nat.{_≤_};
 ghost use lib.ListN.{length};
-ghost use Rattle.house_layout.specs.Layout.{u16At, headerOf};
+ghost use Rattle.house_layout.specs.Layout.{headerOf};
 ghost use Rattle.house_layout.specs.Fields.{within, fieldsInRange};
+use fields::u16_at;
+use fields::wide;
 
 pub struct Header {
     pub parties: usize,
@@ -11,20 +13,6 @@ pub struct Header {
     pub language: usize,
     pub longest: usize,
     pub records: usize,
-}
-
-pub fn wide(x: u8) -> usize
-    ensures { λ r. ⌜ (r ≡ x) × (r < 256) ⌝ }
-{
-    x as usize
-}
-
-// The two-byte field at a place, low byte first.
-pub fn u16_at(s: &[u8], at: usize) -> usize
-    requires { ⌜ at + 1 < length (now s) ⌝ }
-    ensures { λ r. ⌜ (r ≡ u16At (now (s .entry)) at) × (r < 65536) ⌝ }
-{
-    wide(s[at]) + wide(s[at + 1]) * 256
 }
 
 // The header's numbers.

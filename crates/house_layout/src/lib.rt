@@ -6,8 +6,6 @@ mod reply;
 pub use header::Header;
 pub use header::fields_in_range;
 pub use header::read_header;
-pub use header::u16_at;
-pub use header::wide;
 pub use record::Record;
 pub use record::bit_of;
 pub use record::check_record;

@@ -10,10 +10,10 @@ ghost use Rattle.house_layout.specs.Layout.{partiesOf, recordsOf, sizeOf
 ghost use Rattle.house_layout.specs.Fields.{legalTarget, legalKind, judgeRecord};
 ghost use Rattle.house_layout.specs.Kinds.{bitOf};
 use crate::header::Header;
-use crate::header::u16_at;
-use crate::header::wide;
 use crate::reply::Check;
 use crate::reply::Refusal;
+use fields::u16_at;
+use fields::wide;
 use masks::Row;
 
 pub struct Record {

@@ -16,7 +16,8 @@ use Rattle.rebac.specs.NextWord.{pairWords, nextWord}
 use Rattle.rebac.proofs.NextWordLaws.{first-word}
 use Rattle.graph.specs.declared.Archive.{Archive}
 use Rattle.graph.specs.Archive.{Shows}
-use Rattle.rule_bytes.specs.ListBytes.{encodeCount, encodeTerm}
+use Rattle.fields.specs.Numbers.{u16Bytes}
+use Rattle.rule_bytes.specs.ListBytes.{encodeTerm}
 use Rattle.rule_bytes.specs.Writing.{put}
 use Rattle.rule_bytes.proofs.RoundTrip.{term-size, word-size}
 use Rattle.rule_bytes.proofs.PutLaws.{put-over}
@@ -34,9 +35,9 @@ head-cons [] e = clash (cc e)
 head-cons (y ∷ l) e = (l, cc e)
 
 -- the bytes of a term of no word and of one
-pub no-words : encodeCount 0 ≡ encodeTerm []
+pub no-words : u16Bytes 0 ≡ encodeTerm []
 unfolding encodeTerm flatMap
-no-words = sym (append-nil (encodeCount 0))
+no-words = sym (append-nil (u16Bytes 0))
 
 one-size : (v : Word) → length (encodeTerm (v ∷ [])) ≡ 3 + length v
 unfolding sumOf

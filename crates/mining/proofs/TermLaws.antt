@@ -5,17 +5,19 @@ use Prim.Native.Nat.{ℕ, _+_, _≤_}
 use native.Mathlib.Omega.{arith}
 use lib.ListN.{length, length-append}
 use Rattle.lists.specs.Lists.{flatMap}
-use Rattle.rule_bytes.specs.ListBytes.{encodeCount, encodeWord, encodeTerm}
+use Rattle.fields.specs.Numbers.{u16Bytes}
+use Rattle.rule_bytes.specs.ListBytes.{encodeWord, encodeTerm}
 use Rattle.rule_bytes.specs.Writing.{put}
-use Rattle.rule_bytes.proofs.RoundTrip.{count-size, words-more}
+use Rattle.fields.proofs.NumberLaws.{count-size}
+use Rattle.rule_bytes.proofs.RoundTrip.{words-more}
 use Rattle.rule_bytes.proofs.PutLaws.{put-put, put-recount}
 
 pub term-more : (b : List ℕ) (at : ℕ) (t : List (List ℕ)) (w : List ℕ) → at + length (encodeTerm t) + length (encodeWord w) ≤ length b
-    → put (put (put b at (encodeTerm t)) (at + length (encodeTerm t)) (encodeWord w)) at (encodeCount (length t + 1)) ≡ put b at (encodeTerm (t ++ (w ∷ [])))
+    → put (put (put b at (encodeTerm t)) (at + length (encodeTerm t)) (encodeWord w)) at (u16Bytes (length t + 1)) ≡ put b at (encodeTerm (t ++ (w ∷ [])))
 unfolding encodeTerm
 term-more b at t w h =
-    let C = encodeCount (length t) in
-    let N = encodeCount (length t + 1) in
+    let C = u16Bytes (length t) in
+    let N = u16Bytes (length t + 1) in
     let F = flatMap encodeWord t in
     let n : length (t ++ (w ∷ [])) ≡ length t + 1 = length-append t (w ∷ []) in
     let s : length (C ++ F) ≡ length C + length F = length-append C F in
@@ -23,4 +25,4 @@ term-more b at t w h =
     ap (λ (l : List ℕ). put l at N) (put-put b at (C ++ F) (encodeWord w) (omega arith) ∙ ap (put b at) (append-assoc C F (encodeWord w)))
     ∙ put-recount b at C N (F ++ encodeWord w) (count-size (length t) ∙ sym (count-size (length t + 1))) (omega (arith, s, r))
     ∙ ap (λ (l : List ℕ). put b at (N ++ l)) (sym (words-more t w))
-    ∙ ap (λ (k : ℕ). put b at (encodeCount k ++ flatMap encodeWord (t ++ (w ∷ [])))) (sym n)
+    ∙ ap (λ (k : ℕ). put b at (u16Bytes k ++ flatMap encodeWord (t ++ (w ∷ [])))) (sym n)

@@ -10,7 +10,8 @@ use lib.Seq.{getD-append-add}
 use Rattle.lists.specs.Lists.{flatMap}
 use Rattle.lists.proofs.Cases.{by-mem}
 use Rattle.rebac.specs.Options.{given}
-use Rattle.rule_bytes.specs.ListBytes.{Parsed, parsed, andThen, decodeMany, Bytes}
+use Rattle.fields.specs.Numbers.{Bytes}
+use Rattle.rule_bytes.specs.ListBytes.{Parsed, parsed, andThen, decodeMany}
 
 -- none is not some
 pub not-some : {G A : Type 0} {x : A} → none ≡ some x → G

@@ -11,15 +11,16 @@ use lib.Dec.{leb, ltb}
 use borrow.Author.Tests.{leb-true, ltb-true}
 use Rattle.lists.specs.Lists.{allOf, flatMap}
 use Rattle.lists.proofs.Cases.{and-left, and-right}
-use Rattle.house_layout.specs.Layout.{u16At}
+use Rattle.fields.specs.Numbers.{u16At, u16Bytes}
 use Rattle.lists.proofs.ListLaws.{all-in}
 use Rattle.lists.proofs.Pointwise.{getD-below}
 use Rattle.search.proofs.ValueLaws.{value-full, value-below}
 use Rattle.search.specs.Word.{Short, wordOf}
-use Rattle.rule_bytes.specs.ListBytes.{encodeCount, encodeWord, encodeTerm, encodeList, Parsed, parsed, decodeCount, legalWord, LegalList}
+use Rattle.rule_bytes.specs.ListBytes.{encodeWord, encodeTerm, encodeList, Parsed, parsed, decodeCount, legalWord, LegalList}
 use Rattle.graph.specs.Legal.{legalSymbol}
 use Rattle.rule_bytes.specs.Reading.{WordFits, wordAt, FitWord, FitTerm, FitList, TermAt, IsList}
-use Rattle.rule_bytes.proofs.RoundTrip.{count-encode, count-size}
+use Rattle.fields.proofs.NumberLaws.{count-size}
+use Rattle.rule_bytes.proofs.RoundTrip.{count-encode}
 use Rattle.rule_bytes.proofs.ReadingLaws.{drop-on, count-here}
 
 -- entries ahead of a place, and what follows them
@@ -94,9 +95,9 @@ abbrev restIn : Option (Parsed ℕ) → List ℕ
 restIn none = []
 restIn (some r) = r .rest
 
-module _ (b : List ℕ) (at n : ℕ) (s : List ℕ) (here : drop at b ≡ encodeCount n ++ s) where
+module _ (b : List ℕ) (at n : ℕ) (s : List ℕ) (here : drop at b ≡ u16Bytes n ++ s) where
   pub count-room : at + 1 < length b
-  count-room = omega (arith, length-drop at b, ap length here, length-append (encodeCount n) s, count-size n)
+  count-room = omega (arith, length-drop at b, ap length here, length-append (u16Bytes n) s, count-size n)
 
   count-both : parsed (u16At b at) (drop (at + 2) b) ≡ parsed n s
   count-both = sym (count-here b at count-room) ∙ ap decodeCount here ∙ count-encode n s
@@ -109,12 +110,12 @@ module _ (b : List ℕ) (at n : ℕ) (s : List ℕ) (here : drop at b ≡ encode
 
 pub term-room : (b : List ℕ) (at : ℕ) (t : List (List ℕ)) (s : List ℕ) → TermAt b at t s → at + 1 < length b
 unfolding encodeTerm
-term-room b at t s h = count-room b at (length t) (flatMap encodeWord t ++ s) (h .bytes ∙ append-assoc (encodeCount (length t)) (flatMap encodeWord t) s)
+term-room b at t s h = count-room b at (length t) (flatMap encodeWord t ++ s) (h .bytes ∙ append-assoc (u16Bytes (length t)) (flatMap encodeWord t) s)
 
 pub term-ahead : (b : List ℕ) (at : ℕ) (t : List (List ℕ)) (s : List ℕ) → TermAt b at t s → Ahead encodeWord FitWord b (at + 2) (u16At b at) t s
 unfolding encodeTerm
 term-ahead b at t s h =
-    let e = h .bytes ∙ append-assoc (encodeCount (length t)) (flatMap encodeWord t) s in
+    let e = h .bytes ∙ append-assoc (u16Bytes (length t)) (flatMap encodeWord t) s in
     record { bytes = count-next b at (length t) (flatMap encodeWord t ++ s) e; number = sym (count-value b at (length t) (flatMap encodeWord t ++ s) e); fits = h .fits .words }
 
 pub list-room : (b : List ℕ) (l : List (List (List ℕ))) → IsList b l → 1 < length b

@@ -14,7 +14,7 @@ use borrow.Author.Tests.{leb-true, le-leb, lt-leb, eqb-true, eqb-false}
 use Rattle.lists.specs.Lists.{allOf}
 use Rattle.lists.proofs.Cases.{by-test, and-false}
 use Rattle.rebac.specs.Options.{given, isSome}
-use Rattle.house_layout.specs.Layout.{u16At}
+use Rattle.fields.specs.Numbers.{u16At}
 use Rattle.rule_bytes.specs.ListBytes.{Parsed, parsed, andThen, whole, decodeCount, decodeMany, legalWord, decodeWord, decodeTerm, decodeTerms, decodeList}
 use Rattle.graph.specs.Legal.{legalSymbol}
 use Rattle.rule_bytes.specs.Reading.{Passes}

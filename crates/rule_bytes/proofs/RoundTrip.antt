@@ -12,16 +12,18 @@ use borrow.Author.Tests.{leb-true, le-leb}
 use Rattle.lists.specs.Lists.{flatMap}
 use Rattle.lists.specs.Order.{sumOf}
 use Rattle.lists.proofs.Cases.{and-left, and-right}
-use Rattle.rule_bytes.specs.ListBytes.{encodeCount, encodeWord, encodeTerm, encodeList, Parsed, parsed, whole, decodeCount, legalWord, decodeWord, decodeTerm, decodeTerms, decodeList, LegalTerm, LegalList, Bytes}
+use Rattle.fields.specs.Numbers.{u16Bytes, Bytes}
+use Rattle.rule_bytes.specs.ListBytes.{encodeWord, encodeTerm, encodeList, Parsed, parsed, whole, decodeCount, legalWord, decodeWord, decodeTerm, decodeTerms, decodeList, LegalTerm, LegalList}
+use Rattle.fields.proofs.NumberLaws.{count-size}
 use Rattle.rule_bytes.proofs.Parsing.{not-some, then-some, given-some, bytes-after, Back, many-encode, many-decode}
 
 -- counts
-pub count-encode : (n : ℕ) (s : List ℕ) → decodeCount (encodeCount n ++ s) ≡ parsed n s
-unfolding encodeCount decodeCount
+pub count-encode : (n : ℕ) (s : List ℕ) → decodeCount (u16Bytes n ++ s) ≡ parsed n s
+unfolding u16Bytes decodeCount
 count-encode n s = let e : n % 256 + n / 256 * 256 ≡ n = omega arith in rw e
 
-pub count-decode : (s : List ℕ) (r : Parsed ℕ) → Bytes s → decodeCount s ≡ some r → Back encodeCount (λ n. n < 65536) s (r .value) (r .rest)
-unfolding encodeCount decodeCount
+pub count-decode : (s : List ℕ) (r : Parsed ℕ) → Bytes s → decodeCount s ≡ some r → Back u16Bytes (λ n. n < 65536) s (r .value) (r .rest)
+unfolding u16Bytes decodeCount
 count-decode [] r h e = not-some e
 count-decode (a ∷ []) r h e = not-some e
 count-decode (a ∷ b ∷ s) r h e =
@@ -53,7 +55,7 @@ module _ (labels language longest : ℕ) where
   pub term-encode : (t : List (List ℕ)) → LegalTerm labels language longest t → (s : List ℕ) → decodeTerm labels language longest (encodeTerm t ++ s) ≡ parsed t s
   unfolding encodeTerm decodeTerm
   term-encode t h s =
-      rw (append-assoc (encodeCount (length t)) (flatMap encodeWord t) s, count-encode (length t) (flatMap encodeWord t ++ s), le-leb 1 (length t) (h .full))
+      rw (append-assoc (u16Bytes (length t)) (flatMap encodeWord t) s, count-encode (length t) (flatMap encodeWord t ++ s), le-leb 1 (length t) (h .full))
       (many-encode (decodeWord labels language longest) encodeWord t s (λ w m. word-encode w (h .words w m)))
 
   pub term-decode : (s : List ℕ) (r : Parsed (List (List ℕ))) → Bytes s → decodeTerm labels language longest s ≡ some r → Back encodeTerm (LegalTerm labels language longest) s (r .value) (r .rest)
@@ -62,9 +64,9 @@ module _ (labels language longest : ℕ) where
       let u = then-some (decodeCount s) _ e in
       let n = count-decode s (u .0) h (u .1) in
       let g = given-some (leb 1 (u .0 .value)) _ (u .2) in
-      let b = many-decode (decodeWord labels language longest) encodeWord (λ w. legalWord labels language longest w ≡ true) word-decode (u .0 .value) (u .0 .rest) r (bytes-after (encodeCount (u .0 .value)) (u .0 .rest) (rw (n .bytes) at h)) (g .1) in
+      let b = many-decode (decodeWord labels language longest) encodeWord (λ w. legalWord labels language longest w ≡ true) word-decode (u .0 .value) (u .0 .rest) r (bytes-after (u16Bytes (u .0 .value)) (u .0 .rest) (rw (n .bytes) at h)) (g .1) in
       record {
-        bytes = n .bytes ∙ rw (b .bytes, b .number) (sym (append-assoc (encodeCount (u .0 .value)) (flatMap encodeWord (r .value)) (r .rest)));
+        bytes = n .bytes ∙ rw (b .bytes, b .number) (sym (append-assoc (u16Bytes (u .0 .value)) (flatMap encodeWord (r .value)) (r .rest)));
         holds = record { full = omega (arith, b .number, leb-true 1 (u .0 .value) (g .0)); fits = omega (arith, b .number, n .holds); words = b .holds };
       }
 
@@ -72,7 +74,7 @@ module _ (labels language longest : ℕ) where
   pub terms-encode : (l : List (List (List ℕ))) → LegalList labels language longest l → (s : List ℕ) → decodeTerms labels language longest (encodeList l ++ s) ≡ parsed l s
   unfolding encodeList decodeTerms
   terms-encode l h s =
-      rw (append-assoc (encodeCount (length l)) (flatMap encodeTerm l) s, count-encode (length l) (flatMap encodeTerm l ++ s))
+      rw (append-assoc (u16Bytes (length l)) (flatMap encodeTerm l) s, count-encode (length l) (flatMap encodeTerm l ++ s))
       (many-encode (decodeTerm labels language longest) encodeTerm l s (λ t m. term-encode t (h .terms t m)))
 
   pub terms-decode : (s : List ℕ) (r : Parsed (List (List (List ℕ)))) → Bytes s → decodeTerms labels language longest s ≡ some r → Back encodeList (LegalList labels language longest) s (r .value) (r .rest)
@@ -80,9 +82,9 @@ module _ (labels language longest : ℕ) where
   terms-decode s r h e =
       let u = then-some (decodeCount s) _ e in
       let n = count-decode s (u .0) h (u .1) in
-      let b = many-decode (decodeTerm labels language longest) encodeTerm (LegalTerm labels language longest) term-decode (u .0 .value) (u .0 .rest) r (bytes-after (encodeCount (u .0 .value)) (u .0 .rest) (rw (n .bytes) at h)) (u .2) in
+      let b = many-decode (decodeTerm labels language longest) encodeTerm (LegalTerm labels language longest) term-decode (u .0 .value) (u .0 .rest) r (bytes-after (u16Bytes (u .0 .value)) (u .0 .rest) (rw (n .bytes) at h)) (u .2) in
       record {
-        bytes = n .bytes ∙ rw (b .bytes, b .number) (sym (append-assoc (encodeCount (u .0 .value)) (flatMap encodeTerm (r .value)) (r .rest)));
+        bytes = n .bytes ∙ rw (b .bytes, b .number) (sym (append-assoc (u16Bytes (u .0 .value)) (flatMap encodeTerm (r .value)) (r .rest)));
         holds = record { fits = omega (arith, b .number, n .holds); terms = b .holds };
       }
 
@@ -126,17 +128,13 @@ unfolding flatMap sumOf
 flat-size e [] = refl
 flat-size e (x ∷ l) = length-append (e x) (flatMap e l) ∙ ap (λ (n : ℕ). length (e x) + n) (flat-size e l)
 
-pub count-size : (n : ℕ) → length (encodeCount n) ≡ 2
-unfolding encodeCount
-count-size n = refl
-
 pub term-size : (t : List (List ℕ)) → length (encodeTerm t) ≡ 2 + sumOf (λ w. length (encodeWord w)) t
 unfolding encodeTerm
-term-size t = omega (arith, length-append (encodeCount (length t)) (flatMap encodeWord t), count-size (length t), flat-size encodeWord t)
+term-size t = omega (arith, length-append (u16Bytes (length t)) (flatMap encodeWord t), count-size (length t), flat-size encodeWord t)
 
 pub list-size : (l : List (List (List ℕ))) → length (encodeList l) ≡ 2 + sumOf (λ t. length (encodeTerm t)) l
 unfolding encodeList
-list-size l = omega (arith, length-append (encodeCount (length l)) (flatMap encodeTerm l), count-size (length l), flat-size encodeTerm l)
+list-size l = omega (arith, length-append (u16Bytes (length l)) (flatMap encodeTerm l), count-size (length l), flat-size encodeTerm l)
 
 -- one more word, one more term
 flat-more : {A : Type 0} (e : A → List ℕ) (l : List A) (x : A) → flatMap e (l ++ (x ∷ [])) ≡ flatMap e l ++ e x

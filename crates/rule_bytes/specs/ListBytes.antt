@@ -1,18 +1,15 @@
 -- The bytes of a rule list (01, "Rule list bytes"): a list is terms, a term is words, a word is symbols.
-use Prim.Native.Nat.{ℕ, zero, suc, _+_, _*_, _/_, _%_, _≤_, _<_}
+use Prim.Native.Nat.{ℕ, zero, suc, _+_, _*_, _≤_, _<_}
 use mathlib.Core.Path.{_≡_}
 use mathlib.Core.Bool.{Bool, true, _&&_}
 use mathlib.Core.List.{List, [], _∷_, _++_, List·Memᴰ}
 use mathlib.Core.Option.{Option, none, some}
-use lib.ListN.{length, take, drop, getD}
+use lib.ListN.{length, take, drop}
 use lib.Dec.{leb}
 use Rattle.lists.specs.Lists.{allOf, flatMap}
+use Rattle.fields.specs.Numbers.{u16Bytes}
 use Rattle.rebac.specs.Options.{given}
 use Rattle.graph.specs.Legal.{legalSymbol}
-
--- 01: "Two-byte fields have the low byte first."
-unfoldable pub encodeCount : ℕ → List ℕ
-encodeCount n = n % 256 ∷ n / 256 ∷ []
 
 -- "each word: its length (one byte, 1 to D), its symbols"
 unfoldable pub encodeWord : List ℕ → List ℕ
@@ -20,11 +17,11 @@ encodeWord w = length w ∷ w
 
 -- "each term: number of words (two bytes, 1 or more)"
 unfoldable pub encodeTerm : List (List ℕ) → List ℕ
-encodeTerm t = encodeCount (length t) ++ flatMap encodeWord t
+encodeTerm t = u16Bytes (length t) ++ flatMap encodeWord t
 
 -- "number of terms (two bytes)"
 unfoldable pub encodeList : List (List (List ℕ)) → List ℕ
-encodeList l = encodeCount (length l) ++ flatMap encodeTerm l
+encodeList l = u16Bytes (length l) ++ flatMap encodeTerm l
 
 -- what was read, and the bytes after it
 pub record Parsed (A : Type 0) : Type 0 where
@@ -83,7 +80,3 @@ module _ (labels language longest : ℕ) where
   pub record LegalList (l : List (List (List ℕ))) : Type 0 where
     pub fits : length l < 65536
     pub terms : (t : List (List ℕ)) → List·Memᴰ t l → LegalTerm t
-
--- each byte is below 256
-abbrev pub Bytes : List ℕ → Type 0
-Bytes b = (i : ℕ) → getD b i 0 < 256

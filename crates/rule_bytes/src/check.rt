@@ -8,8 +8,8 @@ ghost use Rattle.rebac.specs.Options.{isSome};
 ghost use Rattle.rule_bytes.specs.ListBytes.{decodeMany, decodeWord, decodeTerm, decodeList};
 ghost use Rattle.graph.specs.Legal.{legalSymbol};
 ghost use Rattle.rule_bytes.specs.Reading.{Passes};
-use house_layout::u16_at;
-use house_layout::wide;
+use fields::u16_at;
+use fields::wide;
 
 // Where the bytes after a part begin, or that the part breaks the layout.
 pub enum Passed {

@@ -4,7 +4,7 @@ ghost use Prim.Native.Nat.{_+_, _≤_};
 ghost use lib.ListN.{length, take, drop};
 ghost use Rattle.rule_bytes.specs.Reading.{WordFits, wordAt};
 ghost use Rattle.search.specs.Word.{wordOf};
-use house_layout::wide;
+use fields::wide;
 use search::Word;
 
 // A word, and the place after it.

@@ -8,7 +8,7 @@ ghost use Rattle.search.specs.Word.{symbolsIn};
 ghost use Rattle.rule_bytes.specs.Reading.{TermAt, SomeTerm, IsList, SomeList};
 ghost use Rattle.rule_bytes.specs.Writing.{put};
 ghost use Rattle.rule_text.specs.Text.{hexDigit, symbolText, wordText, termText, listText, dot, ampersand, lineEnd};
-use house_layout::u16_at;
+use fields::u16_at;
 use rule_bytes::read_word;
 use search::Word;
 

@@ -5,7 +5,7 @@ use mathlib.Core.List.{List, [], _++_}
 use Prim.Native.Nat.{ℕ, _+_, _-_, _<_}
 use lib.ListN.{drop}
 use Rattle.lists.specs.Lists.{allOf, anyOf, flatMap}
-use Rattle.house_layout.specs.Layout.{u16At}
+use Rattle.fields.specs.Numbers.{u16At}
 use Rattle.rule_bytes.specs.ListBytes.{encodeWord, encodeTerm}
 use Rattle.rule_bytes.specs.Reading.{wordAt, FitWord, FitTerm, TermAt, IsList}
 use Rattle.rule_bytes.proofs.PlaceLaws.{Ahead, Entry, entry, no-more, word-next, term-ahead, list-ahead}

@@ -15,7 +15,8 @@ use Rattle.house_layout.specs.declared.reply.Refusal.the-variants.{RuleList, Pa
 use Rattle.graph.specs.Archive.{Shows}
 use Rattle.graph.specs.declared.Archive.{Archive}
 use Rattle.paths.proofs.CallLaws.{shown-graph}
-use Rattle.rule_bytes.specs.ListBytes.{decodeList, Bytes}
+use Rattle.fields.specs.Numbers.{Bytes}
+use Rattle.rule_bytes.specs.ListBytes.{decodeList}
 use Rattle.rule_bytes.specs.Reading.{IsList, SomeList}
 use Rattle.rules.specs.Permit.{saidPermit, yesOrNo, answerBy, permitIn, meetsTerm, meetsList}
 use Rattle.graph.specs.Legal.{isPair}

@@ -18,7 +18,8 @@ use Rattle.rebac.specs.Existence.{matterWords, problemOver, problemOf, verdictO
 use Rattle.rebac.specs.NextWord.{pairWords}
 use Rattle.rebac.proofs.Conversion.{mined-converts}
 use Rattle.graph.specs.Legal.{legalSymbol}
-use Rattle.rule_bytes.specs.ListBytes.{encodeCount, encodeWord, encodeTerm, encodeList, decodeCount, decodeMany, legalWord, decodeWord, decodeTerm, decodeTerms, decodeList}
+use Rattle.fields.specs.Numbers.{u16Bytes}
+use Rattle.rule_bytes.specs.ListBytes.{encodeWord, encodeTerm, encodeList, decodeCount, decodeMany, legalWord, decodeWord, decodeTerm, decodeTerms, decodeList}
 use Rattle.rule_text.specs.Text.{hexDigit, symbolText, joined, wordText, termText, listText}
 use Rattle.conversion.specs.Calls.{listOf, bytesOf, verdictIn}
 use Rattle.conversion.specs.declared.verdict.VerdictReply.{VerdictReply}
@@ -68,7 +69,7 @@ expected c =
     }
 
 computed : map reckoned rows ≡ map expected rows
-unfolding allOf anyOf filterBy firstBy flatMap upFrom range pairsOf permitted wordsOfLength wordsUpTo candidates routes pathsOf pathCount kinds kindHolds apart inLanguage holds alphabet meetsItem meets permits wordsOf covers rival judge spoils verdict lacks addAgainst addAll termOf mineFrom mine matterWords problemOf problemOver verdictOf minedList pairWords legalSymbol encodeCount encodeWord encodeTerm encodeList decodeCount decodeMany legalWord decodeWord decodeTerm decodeTerms decodeList hexDigit symbolText joined wordText termText listText listOf bytesOf verdictIn digitsIn decimalText pairText verdictLine bytesIn listedEdge listedPair reckoned expected
+unfolding allOf anyOf filterBy firstBy flatMap upFrom range pairsOf permitted wordsOfLength wordsUpTo candidates routes pathsOf pathCount kinds kindHolds apart inLanguage holds alphabet meetsItem meets permits wordsOf covers rival judge spoils verdict lacks addAgainst addAll termOf mineFrom mine matterWords problemOf problemOver verdictOf minedList pairWords legalSymbol u16Bytes encodeWord encodeTerm encodeList decodeCount decodeMany legalWord decodeWord decodeTerm decodeTerms decodeList hexDigit symbolText joined wordText termText listText listOf bytesOf verdictIn digitsIn decimalText pairText verdictLine bytesIn listedEdge listedPair reckoned expected
 computed = refl
 
 -- two functions that give the same over a list agree at each of its members

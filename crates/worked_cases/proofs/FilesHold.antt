@@ -10,7 +10,8 @@ use borrow.Author.Tests.{eqb-true, le-ltb, ne-eqb}
 use Rattle.lists.specs.Lists.{allOf, anyOf, upFrom}
 use Rattle.lists.proofs.Cases.{and-false}
 use Rattle.lists.proofs.ListLaws.{all-in, any-out, up-in}
-use Rattle.house_layout.specs.Layout.{u16At, recordOf}
+use Rattle.fields.specs.Numbers.{u16At}
+use Rattle.house_layout.specs.Layout.{recordOf}
 use Rattle.house_layout.specs.Reply.{numberOf}
 use Rattle.house_layout.specs.Fields.{fieldsInRange, judgeRecord}
 use Rattle.house_file.specs.Check.{says, recordCheck, walkChain, walkChains, chainsCheck, checkOf}

@@ -13,9 +13,10 @@ use Rattle.rebac.specs.NextWord.{nextWord}
 use Rattle.search.specs.Word.{symbolsIn}
 use Rattle.search.proofs.SearchLaws.{symbols-length}
 use Rattle.words.proofs.NextLaws.{next-not, next-some}
-use Rattle.rule_bytes.specs.ListBytes.{encodeCount, encodeTerm}
+use Rattle.fields.specs.Numbers.{u16Bytes}
+use Rattle.rule_bytes.specs.ListBytes.{encodeTerm}
 use Rattle.rule_bytes.specs.Writing.{put}
-use Rattle.rule_bytes.proofs.RoundTrip.{count-size}
+use Rattle.fields.proofs.NumberLaws.{count-size}
 use Rattle.rule_bytes.proofs.PutLaws.{put-length, put-over}
 use Rattle.mining.specs.Building.{problemIn, firstBytes, termBytes}
 use Rattle.mining.proofs.FirstLaws.{no-words, first-none, first-full, first-bytes, first-size, first-part, term-least, built-over}
@@ -58,7 +59,7 @@ count c =
     let p : Pair = pair (x .args .first) (x .args .second) in
     let r : x .args .at + length (termBytes (x .args .a) p) ≤ length (x .args .out .now) = x .pre .1 .1 in
     let e = c .put-u16 .ensures in
-    (e ∙ ap (put (x .args .out .now) (x .args .at)) no-words, ap length e ∙ put-length (x .args .out .now) (x .args .at) (encodeCount 0) (omega (arith, count-size 0, term-least (x .args .a) p, r)))
+    (e ∙ ap (put (x .args .out .now) (x .args .at)) no-words, ap length e ∙ put-length (x .args .out .now) (x .args .at) (u16Bytes 0) (omega (arith, count-size 0, term-least (x .args .a) p, r)))
 
 add-add-word : tie.Need-add-add-word
 add-add-word c =

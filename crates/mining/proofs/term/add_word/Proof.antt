@@ -7,7 +7,8 @@ use borrow.Author.Needs.{needs}
 use lib.ListN.{length}
 use lib.Seq.{length-take-le}
 use Rattle.search.specs.Word.{symbolsIn}
-use Rattle.rule_bytes.specs.ListBytes.{encodeCount, encodeWord, encodeTerm}
+use Rattle.fields.specs.Numbers.{u16Bytes}
+use Rattle.rule_bytes.specs.ListBytes.{encodeWord, encodeTerm}
 use Rattle.rule_bytes.specs.Writing.{put}
 use Rattle.rule_bytes.proofs.RoundTrip.{word-size}
 use Rattle.mining.proofs.TermLaws.{term-more}
@@ -35,9 +36,9 @@ returns c =
     let W = encodeWord (symbolsIn (a .w)) in
     let T = put b (a .at) (encodeTerm t) in
     c .before .before .put-u16 .ensures
-    ∙ ap (λ (s : List ℕ). put s (a .at) (encodeCount (a .number + 1))) (c .before .before .before .before .before .before .put-word .ensures ∙ ap (λ (s : List ℕ). put s (a .end) W) o)
-    ∙ ap (λ (k : ℕ). put (put T k W) (a .at) (encodeCount (a .number + 1))) e
-    ∙ ap (λ (k : ℕ). put (put T (a .at + length (encodeTerm t)) W) (a .at) (encodeCount (k + 1))) (sym n)
+    ∙ ap (λ (s : List ℕ). put s (a .at) (u16Bytes (a .number + 1))) (c .before .before .before .before .before .before .put-word .ensures ∙ ap (λ (s : List ℕ). put s (a .end) W) o)
+    ∙ ap (λ (k : ℕ). put (put T k W) (a .at) (u16Bytes (a .number + 1))) e
+    ∙ ap (λ (k : ℕ). put (put T (a .at + length (encodeTerm t)) W) (a .at) (u16Bytes (k + 1))) (sym n)
     ∙ term-more b (a .at) t (symbolsIn (a .w)) (omega (arith, word-size (symbolsIn (a .w)), m, e, l))
 
 pub add-word-spec : {M : Type 1} → statement M

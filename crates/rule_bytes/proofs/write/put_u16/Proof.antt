@@ -1,7 +1,7 @@
 -- Two bytes, low byte first.
 use native.Mathlib.Omega.{arith}
 use lib.ListN.{length-set}
-use Rattle.rule_bytes.specs.ListBytes.{encodeCount}
+use Rattle.fields.specs.Numbers.{u16Bytes}
 use Rattle.rule_bytes.proofs.PutLaws.{put-two}
 use borrow.Author.Needs.{needs}
 use Rattle.rule_bytes.proofs.write.put_u16.Statement.{statement}
@@ -26,7 +26,7 @@ same-length : tie.Need-same-length
 same-length c = search needs
 
 returns : tie.Need-returns
-unfolding encodeCount
+unfolding u16Bytes
 returns c = put-two _ _ _ _ (omega arith)
 
 pub put-u16-spec : {M : Type 1} → statement M

@@ -1,5 +1,5 @@
 -- Each step has its law (PermitLaws).
-use Rattle.rule_bytes.specs.ListBytes.{Bytes}
+use Rattle.fields.specs.Numbers.{Bytes}
 use mathlib.Core.Path.{_≡_, sym, ap, _∙_}
 use mathlib.Core.Bool.{true}
 use native.Mathlib.Omega.{arith}

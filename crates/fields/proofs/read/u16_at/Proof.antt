@@ -1,9 +1,9 @@
 -- Two bytes, each below 256.
 use native.Mathlib.Omega.{arith}
-use Rattle.house_layout.specs.Layout.{u16At}
+use Rattle.fields.specs.Numbers.{u16At}
 use borrow.Author.Needs.{needs}
-use Rattle.house_layout.proofs.header.u16_at.Statement.{statement}
-use Rattle.house_layout.proofs.header.u16_at.Tie as tie
+use Rattle.fields.proofs.read.u16_at.Statement.{statement}
+use Rattle.fields.proofs.read.u16_at.Tie as tie
 
 shared-slice-read-wide : tie.Need-shared-slice-read-wide
 shared-slice-read-wide c = search needs
