@@ -12,8 +12,8 @@ use Rattle.masks.specs.Mask.{testBit}
 use Rattle.masks.specs.Table.{maskIn}
 use Rattle.masks.specs.declared.Row.{Row}
 use Rattle.masks.proofs.MaskLaws.{zero-bit}
-use Rattle.rule_bytes.specs.Writing.{put}
-use Rattle.rule_bytes.proofs.PutLaws.{put-more}
+use Rattle.fields.specs.Writing.{put}
+use Rattle.fields.proofs.PutLaws.{put-more}
 use Rattle.conversion.specs.Calls.{oneIf, clearTable}
 use Rattle.conversion.specs.Passes.{rowBytes}
 use Rattle.lists.proofs.ListLaws.{up-length}

@@ -18,9 +18,9 @@ use Rattle.graph.specs.declared.Archive.{Archive}
 use Rattle.graph.specs.Archive.{Shows}
 use Rattle.fields.specs.Numbers.{u16Bytes}
 use Rattle.rule_bytes.specs.ListBytes.{encodeList}
-use Rattle.rule_bytes.specs.Writing.{put}
+use Rattle.fields.specs.Writing.{put}
 use Rattle.fields.proofs.NumberLaws.{count-size}
-use Rattle.rule_bytes.proofs.PutLaws.{put-nil, put-put, put-before, put-length}
+use Rattle.fields.proofs.PutLaws.{put-nil, put-put, put-before, put-length}
 use Rattle.mining.specs.Pairs.{pairAt}
 use Rattle.mining.specs.Building.{problemIn, termBytes}
 use Rattle.mining.specs.Taking.{due, JudgedAs}

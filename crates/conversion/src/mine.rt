@@ -45,7 +45,7 @@ fn write_list(a: Archive, out: &mut [u8]) -> Row
         end = t.end;
         marks = t.marks;
     }
-    rule_bytes::put_u16(out, 0, number);
+    fields::put_u16(out, 0, number);
     marks
 }
 

@@ -29,11 +29,11 @@ use Rattle.graph.specs.Archive.{Shows}
 use Rattle.search.specs.Ask.{tableGraph}
 use Rattle.fields.specs.Numbers.{u16Bytes, u16At}
 use Rattle.rule_bytes.specs.ListBytes.{encodeWord, encodeTerm}
-use Rattle.rule_bytes.specs.Writing.{put}
+use Rattle.fields.specs.Writing.{put}
 use Rattle.rule_bytes.specs.Reading.{TermAt}
 use Rattle.fields.proofs.NumberLaws.{count-size}
 use Rattle.rule_bytes.proofs.RoundTrip.{words-more, word-size}
-use Rattle.rule_bytes.proofs.PutLaws.{put-length}
+use Rattle.fields.proofs.PutLaws.{put-length}
 use Rattle.rule_bytes.proofs.PlaceLaws.{term-ahead}
 use Rattle.mining.specs.Pairs.{pairAt, isPairAt, pairsFrom}
 use Rattle.mining.specs.Building.{problemIn, named, encodedTerm, firstBytes, termBytes, BuiltAs}

@@ -18,9 +18,9 @@ use Rattle.graph.specs.declared.Archive.{Archive}
 use Rattle.graph.specs.Archive.{Shows}
 use Rattle.fields.specs.Numbers.{u16Bytes}
 use Rattle.rule_bytes.specs.ListBytes.{encodeTerm}
-use Rattle.rule_bytes.specs.Writing.{put}
+use Rattle.fields.specs.Writing.{put}
 use Rattle.rule_bytes.proofs.RoundTrip.{term-size, word-size}
-use Rattle.rule_bytes.proofs.PutLaws.{put-over}
+use Rattle.fields.proofs.PutLaws.{put-over}
 use Rattle.mining.specs.Building.{problemIn, firstBytes, termBytes, BuiltAs}
 use Rattle.mining.specs.declared.build.Built.{Built}
 use Rattle.mining.proofs.ArchiveLaws.{problem-shown}

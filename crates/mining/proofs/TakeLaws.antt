@@ -19,7 +19,7 @@ use Rattle.graph.specs.declared.Archive.{Archive}
 use Rattle.graph.specs.Archive.{Shows}
 use Rattle.graph.proofs.LegalLaws.{pair-of}
 use Rattle.rule_bytes.specs.Reading.{TermAt}
-use Rattle.rule_bytes.specs.Writing.{put}
+use Rattle.fields.specs.Writing.{put}
 use Rattle.mining.specs.Pairs.{pairAt, isPairAt}
 use Rattle.mining.specs.Building.{problemIn, named, encodedTerm, termBytes, BuiltAs}
 use Rattle.mining.specs.Taking.{Marks, due, dueBy, JudgedAs}

@@ -7,10 +7,10 @@ use lib.ListN.{length, length-append}
 use Rattle.lists.specs.Lists.{flatMap}
 use Rattle.fields.specs.Numbers.{u16Bytes}
 use Rattle.rule_bytes.specs.ListBytes.{encodeWord, encodeTerm}
-use Rattle.rule_bytes.specs.Writing.{put}
+use Rattle.fields.specs.Writing.{put}
 use Rattle.fields.proofs.NumberLaws.{count-size}
 use Rattle.rule_bytes.proofs.RoundTrip.{words-more}
-use Rattle.rule_bytes.proofs.PutLaws.{put-put, put-recount}
+use Rattle.fields.proofs.PutLaws.{put-put, put-recount}
 
 pub term-more : (b : List ℕ) (at : ℕ) (t : List (List ℕ)) (w : List ℕ) → at + length (encodeTerm t) + length (encodeWord w) ≤ length b
     → put (put (put b at (encodeTerm t)) (at + length (encodeTerm t)) (encodeWord w)) at (u16Bytes (length t + 1)) ≡ put b at (encodeTerm (t ++ (w ∷ [])))

@@ -15,7 +15,7 @@ use Rattle.rebac.specs.Existence.{problemOver, plainTerm}
 use Rattle.graph.specs.declared.Archive.{Archive}
 use Rattle.search.specs.Ask.{tableGraph}
 use Rattle.rule_bytes.specs.ListBytes.{encodeTerm}
-use Rattle.rule_bytes.specs.Writing.{put}
+use Rattle.fields.specs.Writing.{put}
 use Rattle.mining.specs.declared.build.Built.{Built}
 use Rattle.mining.specs.declared.build.Built.the-variants.{NoWord, Rival, Term as TermTo}
 use Rattle.mining.specs.declared.build.Pair.{Pair as PairValue}

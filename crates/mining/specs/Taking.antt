@@ -14,7 +14,7 @@ use Rattle.rebac.specs.Verdict.{Verdict, convertible, noWord, rivalled}
 use Rattle.rebac.specs.Mining.{termOf}
 use Rattle.graph.specs.declared.Archive.{Archive}
 use Rattle.graph.specs.Legal.{isPair}
-use Rattle.rule_bytes.specs.Writing.{put}
+use Rattle.fields.specs.Writing.{put}
 use Rattle.mining.specs.Pairs.{pairAt, isPairAt}
 use Rattle.mining.specs.Building.{problemIn, named, termBytes}
 use Rattle.mining.specs.declared.take.Taken.{Taken}

@@ -9,7 +9,7 @@ ghost use Rattle.rebac.specs.Matter.{Matter, IsPair, pair};
 ghost use Rattle.rebac.specs.Verdict.{judge, wordsOf};
 ghost use Rattle.graph.specs.Archive.{Shows};
 ghost use Rattle.graph.specs.Legal.{isPair};
-ghost use Rattle.rule_bytes.specs.Writing.{put};
+ghost use Rattle.fields.specs.Writing.{put};
 ghost use Rattle.mining.specs.Building.{problemIn, firstBytes, termBytes, BuiltAs};
 use crate::lacked::first_lacked;
 use crate::lacked::first_word;
@@ -97,7 +97,7 @@ pub fn build_term(a: Archive, first: usize, second: usize, out: &mut [u8], at: u
         return Built::NoWord;
     }
     let w = c.word;
-    rule_bytes::put_u16(out, at, 0);
+    fields::put_u16(out, at, 0);
     add_word(out, at, at + 2, 0, w);
     extend_term(a, first, second, out, at, at + 3 + w.len)
 }

@@ -5,7 +5,7 @@ ghost use Prim.Native.Nat.{ℕ, _+_, _≤_, _<_};
 ghost use lib.ListN.{length};
 ghost use Rattle.search.specs.Word.{symbolsIn};
 ghost use Rattle.rule_bytes.specs.ListBytes.{encodeTerm};
-ghost use Rattle.rule_bytes.specs.Writing.{put};
+ghost use Rattle.fields.specs.Writing.{put};
 use search::Word;
 
 // One word more at the end of the term that stands from `at` to `end` and has `number` words.
@@ -14,5 +14,5 @@ pub fn add_word(out: &mut [u8], at: usize, end: usize, number: usize, w: Word)
     ensures { λ _. ⌜ ((b : List ℕ) (t : List (List ℕ)) → length t ≡ number → end ≡ at + length (encodeTerm t) → now (out .entry) ≡ put b at (encodeTerm t) → length b ≡ length (now (out .entry)) → now (out .exit) ≡ put b at (encodeTerm (t ++ (symbolsIn w ∷ [])))) ⌝ }
 {
     rule_bytes::put_word(out, end, w);
-    rule_bytes::put_u16(out, at, number + 1);
+    fields::put_u16(out, at, number + 1);
 }

@@ -12,8 +12,8 @@ use Rattle.house_layout.specs.Reply.{numberOf}
 use Rattle.house_layout.specs.declared.reply.Refusal.{Refusal}
 use Rattle.mining.specs.declared.build.Pair.{Pair}
 use Rattle.rule_text.specs.Text.{lineEnd}
-use Rattle.rule_bytes.specs.Writing.{put}
-use Rattle.rule_bytes.proofs.PutLaws.{put-one, put-put, put-length, then-one}
+use Rattle.fields.specs.Writing.{put}
+use Rattle.fields.proofs.PutLaws.{put-one, put-put, put-length, then-one}
 use Rattle.conversion.specs.declared.verdict.VerdictReply.the-variants.{Convertible, NoWord, Rival}
 use Rattle.report.specs.Report.{Wrote, digitsIn, decimalText, space, noWordText, rivalText, pairText, refusedLine, verdictLine}
 

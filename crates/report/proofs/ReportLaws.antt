@@ -22,7 +22,7 @@ use Rattle.house_file.proofs.WellFormedLaws.{framing}
 use Rattle.graph.specs.Archive.{matterOf}
 use Rattle.rule_bytes.specs.Reading.{IsList}
 use Rattle.rule_text.specs.Text.{listText}
-use Rattle.rule_bytes.specs.Writing.{put}
+use Rattle.fields.specs.Writing.{put}
 use Rattle.rules.proofs.MatterLists.{mined-is-list}
 use Rattle.mining.specs.declared.build.Pair.{Pair}
 use Rattle.conversion.specs.Calls.{listOf, bytesOf, verdictCall, miningCall, minedReply, outputOf}

@@ -10,7 +10,7 @@ use Rattle.lists.specs.Lists.{pick}
 use Rattle.house_layout.specs.declared.reply.Refusal.{Refusal}
 use Rattle.house_layout.specs.declared.reply.Refusal.the-variants.{Output}
 use Rattle.graph.specs.Archive.{matterOf}
-use Rattle.rule_bytes.specs.Writing.{put}
+use Rattle.fields.specs.Writing.{put}
 use Rattle.rule_text.specs.Text.{lineEnd, listText}
 use Rattle.mining.specs.declared.build.Pair.{Pair}
 use Rattle.conversion.specs.Calls.{listOf, verdictCall}

@@ -3,4 +3,3 @@ pub mod RoundTrip
 pub mod ReadingLaws
 pub mod CopyLaws
 pub mod PlaceLaws
-pub mod PutLaws

@@ -6,5 +6,4 @@ mod write;
 pub use check::check_list;
 pub use read::WordRead;
 pub use read::read_word;
-pub use write::put_u16;
 pub use write::put_word;

@@ -1,20 +1,11 @@
-// Counts and words written at a place of a lent slice, every other byte kept.
+// Words written at a place of a lent slice, every other byte kept.
 ghost use mathlib.Core.Path.{_≡_};
-ghost use Prim.Native.Nat.{_+_, _≤_, _<_};
+ghost use Prim.Native.Nat.{_+_, _≤_};
 ghost use lib.ListN.{length};
 ghost use Rattle.search.specs.Word.{symbolsIn};
-ghost use Rattle.fields.specs.Numbers.{u16Bytes};
 ghost use Rattle.rule_bytes.specs.ListBytes.{encodeWord};
-ghost use Rattle.rule_bytes.specs.Writing.{put};
+ghost use Rattle.fields.specs.Writing.{put};
 use search::Word;
-
-pub fn put_u16(out: &mut [u8], at: usize, x: usize)
-    requires { ⌜ (x < 65536) × (at + 2 ≤ length (now out)) ⌝ }
-    ensures { λ _. ⌜ now (out .exit) ≡ put (now (out .entry)) at (u16Bytes x) ⌝ }
-{
-    out[at] = (x % 256) as u8;
-    out[at + 1] = (x / 256) as u8;
-}
 
 fn put_symbols(out: &mut [u8], at: usize, w: Word)
     requires { ⌜ (w .len ≤ 31) × (at + w .len ≤ length (now out)) ⌝ }

@@ -14,9 +14,9 @@ use Rattle.lists.proofs.Cases.{by-test}
 use Rattle.fields.specs.Numbers.{u16At, u16Bytes}
 use Rattle.rule_bytes.specs.ListBytes.{encodeWord, encodeTerm}
 use Rattle.rule_bytes.specs.Reading.{wordAt, FitWord, FitTerm, TermAt, IsList}
-use Rattle.rule_bytes.specs.Writing.{put}
+use Rattle.fields.specs.Writing.{put}
 use Rattle.rule_text.specs.Text.{symbolText, after, joined, dot, ampersand, lineEnd, wordText, termText, listText}
-use Rattle.rule_bytes.proofs.PutLaws.{put-nil, put-put, put-length}
+use Rattle.fields.proofs.PutLaws.{put-nil, put-put, put-length}
 use Rattle.fields.proofs.NumberLaws.{count-size}
 use Rattle.rule_bytes.proofs.PlaceLaws.{Ahead, Entry, entry, no-more, word-room, word-next, word-ends, term-ahead, list-ahead}
 

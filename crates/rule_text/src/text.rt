@@ -6,7 +6,7 @@ ghost use lib.ListN.{length, drop};
 ghost use Rattle.lists.specs.Lists.{pick};
 ghost use Rattle.search.specs.Word.{symbolsIn};
 ghost use Rattle.rule_bytes.specs.Reading.{TermAt, SomeTerm, IsList, SomeList};
-ghost use Rattle.rule_bytes.specs.Writing.{put};
+ghost use Rattle.fields.specs.Writing.{put};
 ghost use Rattle.rule_text.specs.Text.{hexDigit, symbolText, wordText, termText, listText, dot, ampersand, lineEnd};
 use fields::u16_at;
 use rule_bytes::read_word;

@@ -7,7 +7,7 @@ use lib.ListN.{length}
 use borrow.Author.Tests.{not-true, not-false}
 use Rattle.fields.specs.Numbers.{u16Bytes}
 use Rattle.fields.proofs.NumberLaws.{count-size}
-use Rattle.rule_bytes.proofs.PutLaws.{put-length}
+use Rattle.fields.proofs.PutLaws.{put-length}
 use Rattle.rebac.specs.Words.{Word}
 use Rattle.rebac.specs.Rules.{RuleList}
 use Rattle.mining.specs.Taking.{due}

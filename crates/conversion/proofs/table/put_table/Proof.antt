@@ -3,8 +3,8 @@ use mathlib.Core.Path.{_≡_, ap, _∙_}
 use Prim.Native.Nat.{_-_, _≤_}
 use native.Mathlib.Omega.{arith}
 use lib.ListN.{length}
-use Rattle.rule_bytes.specs.Writing.{put}
-use Rattle.rule_bytes.proofs.PutLaws.{put-length}
+use Rattle.fields.specs.Writing.{put}
+use Rattle.fields.proofs.PutLaws.{put-length}
 use Rattle.conversion.specs.Calls.{oneIf}
 use Rattle.conversion.proofs.TableLaws.{bytesTo, bytes-length, table-start, table-more, table-end}
 use Rattle.conversion.proofs.table.put_table.Statement.{statement}

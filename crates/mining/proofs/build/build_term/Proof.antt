@@ -15,9 +15,9 @@ use Rattle.search.proofs.SearchLaws.{symbols-length}
 use Rattle.words.proofs.NextLaws.{next-not, next-some}
 use Rattle.fields.specs.Numbers.{u16Bytes}
 use Rattle.rule_bytes.specs.ListBytes.{encodeTerm}
-use Rattle.rule_bytes.specs.Writing.{put}
+use Rattle.fields.specs.Writing.{put}
 use Rattle.fields.proofs.NumberLaws.{count-size}
-use Rattle.rule_bytes.proofs.PutLaws.{put-length, put-over}
+use Rattle.fields.proofs.PutLaws.{put-length, put-over}
 use Rattle.mining.specs.Building.{problemIn, firstBytes, termBytes}
 use Rattle.mining.proofs.FirstLaws.{no-words, first-none, first-full, first-bytes, first-size, first-part, term-least, built-over}
 use Rattle.mining.proofs.build.build_term.Statement.{statement}

@@ -23,7 +23,7 @@ use Rattle.graph.proofs.LegalLaws.{pair-of}
 use Rattle.paths.proofs.CallLaws.{query-in}
 use Rattle.rule_bytes.specs.Reading.{TermAt}
 use Rattle.rule_bytes.specs.ListBytes.{encodeTerm}
-use Rattle.rule_bytes.specs.Writing.{put}
+use Rattle.fields.specs.Writing.{put}
 use Rattle.lists.proofs.OrderLaws.{length-map}
 use Rattle.rule_bytes.specs.declared.read.WordRead.{WordRead}
 use Rattle.search.proofs.ValueLaws.{word-symbols}

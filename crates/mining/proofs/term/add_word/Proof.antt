@@ -9,7 +9,7 @@ use lib.Seq.{length-take-le}
 use Rattle.search.specs.Word.{symbolsIn}
 use Rattle.fields.specs.Numbers.{u16Bytes}
 use Rattle.rule_bytes.specs.ListBytes.{encodeWord, encodeTerm}
-use Rattle.rule_bytes.specs.Writing.{put}
+use Rattle.fields.specs.Writing.{put}
 use Rattle.rule_bytes.proofs.RoundTrip.{word-size}
 use Rattle.mining.proofs.TermLaws.{term-more}
 use Rattle.mining.proofs.term.add_word.Statement.{statement}

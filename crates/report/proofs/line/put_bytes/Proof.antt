@@ -4,8 +4,8 @@ use Prim.Native.Nat.{_-_, _≤_}
 use native.Mathlib.Omega.{arith}
 use lib.ListN.{length, take, length-set}
 use lib.Seq.{take-all}
-use Rattle.rule_bytes.specs.Writing.{put}
-use Rattle.rule_bytes.proofs.PutLaws.{put-nil, put-take}
+use Rattle.fields.specs.Writing.{put}
+use Rattle.fields.proofs.PutLaws.{put-nil, put-take}
 use borrow.Author.Needs.{needs}
 use Rattle.report.proofs.line.put_bytes.Statement.{statement}
 use Rattle.report.proofs.line.put_bytes.Tie as tie

@@ -3,8 +3,8 @@ use mathlib.Core.Path.{_≡_, refl, sym, ap, _∙_}
 use Prim.Native.Nat.{ℕ, _-_, _≤_}
 use native.Mathlib.Omega.{arith}
 use lib.ListN.{length, take, length-set}
-use Rattle.rule_bytes.specs.Writing.{put}
-use Rattle.rule_bytes.proofs.PutLaws.{put-nil, put-take}
+use Rattle.fields.specs.Writing.{put}
+use Rattle.fields.proofs.PutLaws.{put-nil, put-take}
 use borrow.Author.Needs.{needs}
 use Rattle.rule_bytes.proofs.write.put_symbols.Statement.{statement}
 use Rattle.rule_bytes.proofs.write.put_symbols.Tie as tie

@@ -1,11 +1,11 @@
 -- The length byte, then the symbols.
-use Rattle.rule_bytes.proofs.PutLaws.{put-length, put-one, put-put}
+use Rattle.fields.proofs.PutLaws.{put-length, put-one, put-put}
 use mathlib.Core.Path.{_≡_, sym, ap, _∙_}
 use mathlib.Core.List.{List, [], _∷_}
 use Prim.Native.Nat.{ℕ, _+_}
 use native.Mathlib.Omega.{arith}
 use lib.ListN.{length, set, length-set}
-use Rattle.rule_bytes.specs.Writing.{put}
+use Rattle.fields.specs.Writing.{put}
 use lib.Seq.{length-take-le}
 use Rattle.search.specs.Word.{symbolsIn}
 use Rattle.rule_bytes.specs.ListBytes.{encodeWord}

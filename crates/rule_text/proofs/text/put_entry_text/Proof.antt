@@ -2,7 +2,7 @@
 use lib.ListN.{length-append, length-take, length, length-set}
 use Prim.Native.Nat.{ℕ, _+_, _≤_}
 use Rattle.search.specs.Word.{symbolsIn}
-use Rattle.rule_bytes.proofs.PutLaws.{put-length, then-one, then-three}
+use Rattle.fields.proofs.PutLaws.{put-length, then-one, then-three}
 use mathlib.Core.Path.{_≡_, ap, _∙_}
 use mathlib.Core.List.{List}
 use native.Mathlib.Omega.{arith}

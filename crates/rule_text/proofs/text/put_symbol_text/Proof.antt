@@ -2,7 +2,7 @@
 use native.Mathlib.Omega.{arith}
 use lib.ListN.{length-set}
 use Rattle.rule_text.specs.Text.{symbolText}
-use Rattle.rule_bytes.proofs.PutLaws.{put-two, put-three}
+use Rattle.fields.proofs.PutLaws.{put-two, put-three}
 use borrow.Author.Needs.{needs}
 use Rattle.rule_text.proofs.text.put_symbol_text.Statement.{statement}
 use Rattle.rule_text.proofs.text.put_symbol_text.Tie as tie

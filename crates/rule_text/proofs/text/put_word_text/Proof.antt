@@ -3,7 +3,7 @@ use lib.Dec.{eqb}
 use Rattle.lists.specs.Lists.{pick}
 use lib.Seq.{length-take-le}
 use lib.ListN.{drop-of-length-le, length, drop, getD}
-use Rattle.rule_bytes.proofs.PutLaws.{put-length}
+use Rattle.fields.proofs.PutLaws.{put-length}
 use Rattle.rule_text.proofs.TextLaws.{word-step, TextSoFar, text-start, text-next, text-end, joined-nil, piece-length}
 use mathlib.Core.Path.{_≡_, refl, ap, _∙_}
 use mathlib.Core.List.{List, [], _++_}

@@ -6,7 +6,7 @@ use native.Mathlib.Omega.{arith}
 use native.Mathlib.Numerals.{add-one}
 use lib.ListN.{length, take, drop, getD, set, length-append, length-drop, take-append-drop}
 use lib.Seq.{length-take-le, take-at, drop-at, drop-drop, set-split, take-suc, take-take, take-append-le}
-use Rattle.rule_bytes.specs.Writing.{put}
+use Rattle.fields.specs.Writing.{put}
 
 -- the part before and the part written, and what is kept behind
 put-split : (b : List ℕ) (at : ℕ) (x : List ℕ) → put b at x ≡ (take at b ++ x) ++ drop (at + length x) b

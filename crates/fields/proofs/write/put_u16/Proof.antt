@@ -1,11 +1,11 @@
 -- Two bytes, low byte first.
 use native.Mathlib.Omega.{arith}
 use lib.ListN.{length-set}
 use Rattle.fields.specs.Numbers.{u16Bytes}
-use Rattle.rule_bytes.proofs.PutLaws.{put-two}
+use Rattle.fields.proofs.PutLaws.{put-two}
 use borrow.Author.Needs.{needs}
-use Rattle.rule_bytes.proofs.write.put_u16.Statement.{statement}
-use Rattle.rule_bytes.proofs.write.put_u16.Tie as tie
+use Rattle.fields.proofs.write.put_u16.Statement.{statement}
+use Rattle.fields.proofs.write.put_u16.Tie as tie
 
 cast-out : tie.Need-cast-out
 cast-out c = search needs

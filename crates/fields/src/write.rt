@@ -1,0 +1,14 @@
+// A two-byte field written at a place of a lent slice, every other byte kept.
+ghost use mathlib.Core.Path.{_≡_};
+ghost use Prim.Native.Nat.{_+_, _≤_, _<_};
+ghost use lib.ListN.{length};
+ghost use Rattle.fields.specs.Numbers.{u16Bytes};
+ghost use Rattle.fields.specs.Writing.{put};
+
+pub fn put_u16(out: &mut [u8], at: usize, x: usize)
+    requires { ⌜ (x < 65536) × (at + 2 ≤ length (now out)) ⌝ }
+    ensures { λ _. ⌜ now (out .exit) ≡ put (now (out .entry)) at (u16Bytes x) ⌝ }
+{
+    out[at] = (x % 256) as u8;
+    out[at + 1] = (x / 256) as u8;
+}
