@@ -1,2 +1,4 @@
 pub mod NumberLaws
 pub mod PutLaws
+pub mod WroteLaws
+pub mod DecimalLaws

@@ -1,9 +1,9 @@
-// A two-byte field written at a place of a lent slice, every other byte kept.
+// A two-byte field and bytes written at a place of a lent slice, every other byte kept.
 ghost use mathlib.Core.Path.{_≡_};
 ghost use Prim.Native.Nat.{_+_, _≤_, _<_};
 ghost use lib.ListN.{length};
 ghost use Rattle.fields.specs.Numbers.{u16Bytes};
-ghost use Rattle.fields.specs.Writing.{put};
+ghost use Rattle.fields.specs.Writing.{put, Wrote};
 
 pub fn put_u16(out: &mut [u8], at: usize, x: usize)
     requires { ⌜ (x < 65536) × (at + 2 ≤ length (now out)) ⌝ }
@@ -11,4 +11,16 @@ pub fn put_u16(out: &mut [u8], at: usize, x: usize)
 {
     out[at] = (x % 256) as u8;
     out[at + 1] = (x / 256) as u8;
+}
+
+pub fn put_bytes(out: &mut [u8], at: usize, s: &[u8]) -> usize
+    requires { ⌜ at + length (now s) ≤ length (now out) ⌝ }
+    ensures { λ r. ⌜ Wrote (now (out .entry)) at (now (s .entry)) (now (out .exit)) r ⌝ }
+{
+    let mut i = 0;
+    while i < s.len() {
+        out[at + i] = s[i];
+        i += 1;
+    }
+    at + s.len()
 }

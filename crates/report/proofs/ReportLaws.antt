@@ -22,7 +22,7 @@ use Rattle.house_file.proofs.WellFormedLaws.{framing}
 use Rattle.graph.specs.Archive.{matterOf}
 use Rattle.rule_bytes.specs.Reading.{IsList}
 use Rattle.rule_text.specs.Text.{listText}
-use Rattle.fields.specs.Writing.{put}
+use Rattle.fields.specs.Writing.{put, Wrote}
 use Rattle.rules.proofs.MatterLists.{mined-is-list}
 use Rattle.mining.specs.declared.build.Pair.{Pair}
 use Rattle.conversion.specs.Calls.{listOf, bytesOf, verdictCall, miningCall, minedReply, outputOf}
@@ -32,8 +32,11 @@ use Rattle.conversion.specs.declared.verdict.VerdictReply.{VerdictReply}
 use Rattle.conversion.specs.declared.verdict.VerdictReply.the-variants.{Refused, Convertible, NoWord, Rival}
 use Rattle.house_layout.proofs.RefusalNumbers.{number-small}
 use Rattle.conversion.proofs.Demand3.{by-check, convertible-accepted, convertible-verdict, mining-exact, mining-short, length-bound, no-word-parties, rival-parties}
-use Rattle.report.specs.Report.{Wrote, Inside, decimalText, pairText, refusedLine, verdictLine, listPart, fileText, reportText}
-use Rattle.report.proofs.LineLaws.{wrote-two, decimal-length, pair-length, refused-length, convertible-length, no-word-length, rival-length}
+use Rattle.fields.specs.Decimal.{decimalText}
+use Rattle.report.specs.Report.{Inside, pairText, refusedLine, verdictLine, listPart, fileText, reportText}
+use Rattle.fields.proofs.WroteLaws.{wrote-two}
+use Rattle.fields.proofs.DecimalLaws.{decimal-length}
+use Rattle.report.proofs.LineLaws.{pair-length, refused-length, convertible-length, no-word-length, rival-length}
 
 two-digits : (n : ℕ) → n < 32 → length (decimalText n) ≤ 2
 two-digits n h = decimal-length 1 n (omega arith)

@@ -1,38 +1,25 @@
 -- What permitconv prints (01, "Program permitconv"): a line of the verdict, then the list or why there is none.
-use Prim.Native.Nat.{ℕ, zero, suc, _+_, _/_, _%_, _≤_}
+use Prim.Native.Nat.{ℕ, _≤_}
 use mathlib.Core.Path.{_≡_}
 use mathlib.Core.List.{List, [], _∷_, _++_}
 use lib.ListN.{length, take}
-use lib.Dec.{ltb, leb}
+use lib.Dec.{leb}
+use Rattle.fields.specs.Decimal.{decimalText}
 use Rattle.rebac.specs.Matter.{Matter}
 use Rattle.house_layout.specs.Reply.{numberOf}
 use Rattle.lists.specs.Lists.{pick}
 use Rattle.house_layout.specs.declared.reply.Refusal.{Refusal}
 use Rattle.house_layout.specs.declared.reply.Refusal.the-variants.{Output}
 use Rattle.graph.specs.Archive.{matterOf}
-use Rattle.fields.specs.Writing.{put}
 use Rattle.rule_text.specs.Text.{lineEnd, listText}
 use Rattle.mining.specs.declared.build.Pair.{Pair}
 use Rattle.conversion.specs.Calls.{listOf, verdictCall}
 use Rattle.conversion.specs.declared.verdict.VerdictReply.{VerdictReply}
 use Rattle.conversion.specs.declared.verdict.VerdictReply.the-variants.{Refused, Convertible, NoWord, Rival}
 
--- x written from place `at` on, to place `end`, and every other byte kept
-pub record Wrote (old : List ℕ) (at : ℕ) (x new : List ℕ) (end : ℕ) : Type 0 where
-  pub bytes : new ≡ put old at x
-  pub place : end ≡ at + length x
-
 -- a count of bytes at the start of a slice
 abbrev pub Inside : ℕ → List ℕ → Type 0
 Inside n l = (n ≤ length l) × (n ≡ length (take n l))
-
--- the decimal digits of n, with no zero in front; k turns are enough where n is below k
-unfoldable pub digitsIn : ℕ → ℕ → List ℕ
-digitsIn zero n = []
-digitsIn (suc k) n = pick (ltb n 10) ((48 + n) ∷ []) (digitsIn k (n / 10) ++ ((48 + n % 10) ∷ []))
-
-unfoldable pub decimalText : ℕ → List ℕ
-decimalText n = digitsIn (suc n) n
 
 abbrev pub space : List ℕ
 space = 32 ∷ []

@@ -3,7 +3,5 @@ mod line;
 mod report;
 
 pub use line::first_line;
-pub use line::put_bytes;
-pub use line::put_decimal;
 pub use line::refused_line;
 pub use report::write_report;

@@ -2,36 +2,13 @@
 ghost use Prim.Native.Nat.{_+_, _≤_};
 ghost use lib.ListN.{length};
 ghost use Rattle.conversion.specs.declared.verdict.VerdictReply.the-variants.{Convertible, NoWord, Rival};
-ghost use Rattle.report.specs.Report.{Wrote, decimalText, pairText, refusedLine, verdictLine};
+ghost use Rattle.fields.specs.Writing.{Wrote};
+ghost use Rattle.report.specs.Report.{pairText, refusedLine, verdictLine};
 use conversion::VerdictReply;
+use fields::put_bytes;
+use fields::put_decimal;
 use house_layout::Refusal;
 use mining::Pair;
-
-pub fn put_bytes(out: &mut [u8], at: usize, s: &[u8]) -> usize
-    requires { ⌜ at + length (now s) ≤ length (now out) ⌝ }
-    ensures { λ r. ⌜ Wrote (now (out .entry)) at (now (s .entry)) (now (out .exit)) r ⌝ }
-{
-    let mut i = 0;
-    while i < s.len() {
-        out[at + i] = s[i];
-        i += 1;
-    }
-    at + s.len()
-}
-
-// The decimal digits of n: those of n / 10, then the last one.
-pub fn put_decimal(out: &mut [u8], at: usize, n: usize) -> usize
-    requires { ⌜ at + length (decimalText n) ≤ length (now out) ⌝ }
-    ensures { λ r. ⌜ Wrote (now (out .entry)) at (decimalText n) (now (out .exit)) r ⌝ }
-{
-    if n < 10 {
-        out[at] = 48 + n as u8;
-        return at + 1;
-    }
-    let end = put_decimal(out, at, n / 10);
-    out[end] = 48 + (n % 10) as u8;
-    end + 1
-}
 
 fn put_pair(out: &mut [u8], at: usize, p: Pair) -> usize
     requires { ⌜ at + length (pairText p) ≤ length (now out) ⌝ }

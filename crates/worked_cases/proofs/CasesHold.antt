@@ -25,7 +25,8 @@ use Rattle.conversion.specs.Calls.{listOf, bytesOf, verdictIn}
 use Rattle.conversion.specs.declared.verdict.VerdictReply.{VerdictReply}
 use Rattle.conversion.specs.declared.verdict.VerdictReply.the-variants.{Refused, Convertible, NoWord, Rival}
 use Rattle.conversion.proofs.ReplyLaws.{reply-convertible}
-use Rattle.report.specs.Report.{digitsIn, decimalText, pairText, refusedLine, verdictLine, listPart}
+use Rattle.fields.specs.Decimal.{digitsIn, decimalText}
+use Rattle.report.specs.Report.{pairText, refusedLine, verdictLine, listPart}
 use Rattle.worked_cases.specs.Text.{bytesIn}
 use Rattle.worked_cases.specs.Cases.{Row, rows, RowHolds, listedEdge, listedPair}
 

@@ -22,7 +22,8 @@ use Rattle.graph.specs.Archive.{matterOf}
 use Rattle.conversion.specs.Calls.{verdictIn, verdictCall}
 use Rattle.conversion.specs.Demands.{MinesList}
 use Rattle.conversion.proofs.Demand3.{mining-exact}
-use Rattle.report.specs.Report.{digitsIn, decimalText, refusedLine, verdictLine, fileText}
+use Rattle.fields.specs.Decimal.{digitsIn, decimalText}
+use Rattle.report.specs.Report.{refusedLine, verdictLine, fileText}
 use Rattle.worked_cases.specs.Text.{bytesIn}
 use Rattle.worked_cases.specs.Cases.{Row, RowHolds, rowA, listedEdge, listedPair}
 use Rattle.worked_cases.specs.Files.{fileA, FileHolds, withParties, withRecords, RefusedFile, refusedFiles, Refuses}

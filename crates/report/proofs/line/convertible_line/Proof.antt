@@ -2,7 +2,8 @@
 use native.Mathlib.Omega.{arith}
 use lib.ListN.{length}
 use Rattle.report.specs.Report.{verdictLine}
-use Rattle.report.proofs.LineLaws.{wrote-length, wrote-three, convertible-length}
+use Rattle.fields.proofs.WroteLaws.{wrote-length, wrote-three}
+use Rattle.report.proofs.LineLaws.{convertible-length}
 use borrow.Author.Needs.{needs}
 use Rattle.report.proofs.line.convertible_line.Statement.{statement}
 use Rattle.report.proofs.line.convertible_line.Tie as tie

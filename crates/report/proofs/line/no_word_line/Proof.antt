@@ -1,7 +1,8 @@
 -- The word, the pair, the words after it.
 use native.Mathlib.Omega.{arith}
 use Rattle.report.specs.Report.{verdictLine}
-use Rattle.report.proofs.LineLaws.{wrote-length, wrote-three, no-word-length}
+use Rattle.fields.proofs.WroteLaws.{wrote-length, wrote-three}
+use Rattle.report.proofs.LineLaws.{no-word-length}
 use borrow.Author.Needs.{needs}
 use Rattle.report.proofs.line.no_word_line.Statement.{statement}
 use Rattle.report.proofs.line.no_word_line.Tie as tie

@@ -1,7 +1,8 @@
 -- The first party's digits, a space, the second's.
 use native.Mathlib.Omega.{arith}
 use Rattle.report.specs.Report.{pairText}
-use Rattle.report.proofs.LineLaws.{wrote-length, wrote-three, pair-length}
+use Rattle.fields.proofs.WroteLaws.{wrote-length, wrote-three}
+use Rattle.report.proofs.LineLaws.{pair-length}
 use borrow.Author.Needs.{needs}
 use Rattle.report.proofs.line.put_pair.Statement.{statement}
 use Rattle.report.proofs.line.put_pair.Tie as tie

@@ -3,8 +3,10 @@ use mathlib.Core.Path.{ap}
 use Prim.Native.Nat.{ℕ}
 use native.Mathlib.Omega.{arith}
 use lib.ListN.{length}
-use Rattle.report.specs.Report.{refusedLine, decimalText}
-use Rattle.report.proofs.LineLaws.{wrote-length, wrote-three, refused-length}
+use Rattle.fields.specs.Decimal.{decimalText}
+use Rattle.report.specs.Report.{refusedLine}
+use Rattle.fields.proofs.WroteLaws.{wrote-length, wrote-three}
+use Rattle.report.proofs.LineLaws.{refused-length}
 use borrow.Author.Needs.{needs}
 use Rattle.report.proofs.line.refused_line.Statement.{statement}
 use Rattle.report.proofs.line.refused_line.Tie as tie

@@ -1,7 +1,8 @@
 -- The word, the pair, the word before its rival, the rival, the line's end.
 use native.Mathlib.Omega.{arith}
 use Rattle.report.specs.Report.{verdictLine}
-use Rattle.report.proofs.LineLaws.{wrote-length, wrote-five, rival-length}
+use Rattle.fields.proofs.WroteLaws.{wrote-length, wrote-five}
+use Rattle.report.proofs.LineLaws.{rival-length}
 use borrow.Author.Needs.{needs}
 use Rattle.report.proofs.line.rival_line.Statement.{statement}
 use Rattle.report.proofs.line.rival_line.Tie as tie

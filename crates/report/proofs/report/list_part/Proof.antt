@@ -9,7 +9,8 @@ use Rattle.graph.specs.Archive.{matterOf}
 use Rattle.conversion.specs.Calls.{listOf, miningCall, minedReply}
 use Rattle.conversion.specs.declared.mine.MiningReply.{MiningReply}
 use Rattle.conversion.specs.declared.mine.MiningReply.the-variants.{Wrote as WroteList}
-use Rattle.report.specs.Report.{Wrote, listPart}
+use Rattle.fields.specs.Writing.{Wrote}
+use Rattle.report.specs.Report.{listPart}
 use Rattle.report.proofs.ReportLaws.{MinedAs, mined-as, refused-fits}
 use borrow.Author.Needs.{needs}
 use Rattle.report.proofs.report.list_part.Statement.{statement}

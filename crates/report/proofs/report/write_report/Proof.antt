@@ -7,8 +7,9 @@ use lib.ListN.{length}
 use borrow.Rule.Slice.PartMut.{putMid, mid-len}
 use Rattle.graph.specs.Archive.{matterOf}
 use Rattle.conversion.specs.declared.verdict.VerdictReply.{VerdictReply}
-use Rattle.report.specs.Report.{Wrote, Inside, verdictLine, listPart, fileText}
-use Rattle.report.proofs.LineLaws.{wrote-length}
+use Rattle.fields.specs.Writing.{Wrote}
+use Rattle.report.specs.Report.{Inside, verdictLine, listPart, fileText}
+use Rattle.fields.proofs.WroteLaws.{wrote-length}
 use Rattle.report.proofs.ReportLaws.{line-fits, wrote-tail, line-alone, line-then-list}
 use borrow.Author.Needs.{needs}
 use Rattle.report.proofs.report.write_report.Statement.{statement}

@@ -3,15 +3,15 @@ use mathlib.Core.Path.{ap}
 use native.Mathlib.Omega.{arith}
 use lib.ListN.{length}
 use borrow.Author.Needs.{needs}
-use Rattle.report.proofs.LineLaws.{decimal-small, decimal-room, decimal-one, decimal-next}
+use Rattle.fields.proofs.DecimalLaws.{decimal-small, decimal-room, decimal-one, decimal-next}
 use Prim.Native.Nat.{ℕ, _+_, _<_, _≤_}
 use borrow.Fn.Kinds.{In}
 use borrow.Fn.PlainCycle.{Measures, is, falls, and}
-use Rattle.report.proofs.line.put_decimal.Reads as put-decimal
-use Rattle.report.proofs.line.put_decimal.Kinds as put-decimal-kinds
-use Rattle.report.proofs.line.+put_decimal.Lts-put_decimal as put-decimal-lts
-use Rattle.report.proofs.line.+put_decimal.{statement}
-use Rattle.report.proofs.line.+put_decimal.Tie.{close}
+use Rattle.fields.proofs.decimal.put_decimal.Reads as put-decimal
+use Rattle.fields.proofs.decimal.put_decimal.Kinds as put-decimal-kinds
+use Rattle.fields.proofs.decimal.+put_decimal.Lts-put_decimal as put-decimal-lts
+use Rattle.fields.proofs.decimal.+put_decimal.{statement}
+use Rattle.fields.proofs.decimal.+put_decimal.Tie.{close}
 
 abbrev μ-put-decimal : Measures 1 put-decimal-kinds.ps ℕ
 μ-put-decimal κs a = a .1 .1 .0

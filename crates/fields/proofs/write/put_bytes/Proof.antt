@@ -4,11 +4,11 @@ use Prim.Native.Nat.{_-_, _≤_}
 use native.Mathlib.Omega.{arith}
 use lib.ListN.{length, take, length-set}
 use lib.Seq.{take-all}
 use Rattle.fields.specs.Writing.{put}
 use Rattle.fields.proofs.PutLaws.{put-nil, put-take}
 use borrow.Author.Needs.{needs}
-use Rattle.report.proofs.line.put_bytes.Statement.{statement}
-use Rattle.report.proofs.line.put_bytes.Tie as tie
+use Rattle.fields.proofs.write.put_bytes.Statement.{statement}
+use Rattle.fields.proofs.write.put_bytes.Tie as tie
 
 abbrev Inv-loop : tie.InvT-loop
 Inv-loop out₀ at s i₀ out i = (i ≤ length s) × ((length out ≡ length out₀) × (out ≡ put out₀ at (take i s)))
