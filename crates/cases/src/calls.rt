@@ -10,12 +10,13 @@ use crate::print::hex_bytes;
 use crate::print::line;
 use crate::print::text;
 use crate::refused;
+use crate::written;
 use paths::Reply;
 use search::Word;
 
-// Whether a call has more than a file: a word and an output, or a rule list.
+// Whether a call has more than a file: a word and an output, an output, or a rule list.
 pub fn has_more(call: u8) -> bool {
-    call == b'p' || call == b'n' || call == b'r' || call == b'x'
+    call == b'p' || call == b'n' || call == b'w' || call == b'r' || call == b'x'
 }
 
 // The word of a frame: its length, then 31 symbols.
@@ -46,7 +47,7 @@ fn show_reply(r: Reply) {
     }
 }
 
-fn show_output(out: &[u8]) {
+pub fn show_output(out: &[u8]) {
     text(b"output ");
     hex_bytes(out);
     line();
@@ -71,6 +72,9 @@ fn answer(f: Frame, file: &[u8], w: Word, space: &mut [u8], end: usize)
 pub fn run(f: Frame, file: &[u8]) -> bool {
     if f.call == b'p' || f.call == b'n' {
         return run_word(f, file);
+    }
+    if f.call == b'w' {
+        return written::run_write(f, file);
     }
     let mut list = io::large_buffer();
     listed::run_list(f, file, &mut list)

@@ -12,6 +12,7 @@ mod calls;
 mod frame;
 mod listed;
 mod print;
+mod written;
 
 use frame::Frame;
 use print::decimal;

@@ -25,7 +25,8 @@ use Rattle.conversion.specs.declared.mine.MiningReply.the-variants as mining
 use Rattle.conversion.specs.Calls.{bytesOf, verdictCall, miningIn, miningCall, minedReply}
 use Rattle.house_layout.proofs.RefusalNumbers.{number-apart, number-small}
 use Rattle.conversion.proofs.ReplyLaws.{pair-same}
-use Rattle.conversion.proofs.Demand3.{by-check, bytes-bound, length-bound, no-word-parties, rival-parties}
+use Rattle.house_layout.proofs.RecordLaws.{by-check}
+use Rattle.conversion.proofs.Demand3.{bytes-bound, length-bound, no-word-parties, rival-parties}
 use Rattle.console.specs.Packing.{firstKind, packVerdict, packMining, packPermit, VerdictInRange, MiningInRange}
 
 -- a byte and what stands above it

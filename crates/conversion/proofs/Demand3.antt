@@ -2,9 +2,9 @@
 use mathlib.Core.Path.{_≡_, refl, sym, ap, _∙_, subst}
 use mathlib.Core.Logic.{_⊎_, inl, inr, ⊎-elim}
 use mathlib.Core.Bool.{true, false, not, _&&_}
-use mathlib.Core.List.{List, _∷_, _++_, map, List·Memᴰ, List·Memᴰ·not-nil}
+use mathlib.Core.List.{List, _∷_, _++_, List·Memᴰ, List·Memᴰ·not-nil}
 use mathlib.Core.Option.{none, some}
-use Prim.Native.Nat.{ℕ, zero, suc, _+_, _*_, _/_, _%_, _≤_, _<_}
+use Prim.Native.Nat.{ℕ, _+_, _*_, _/_, _%_, _≤_, _<_}
 use native.Mathlib.Omega.{arith}
 use lib.ListN.{length, drop, getD, List·getD-append}
 use borrow.Author.Tests.{leb-true, le-leb, lt-leb, not-true}
@@ -28,7 +28,6 @@ use Rattle.rebac.proofs.SearchLaws.{least-size}
 use Rattle.rebac.proofs.VerdictLaws.{judge-word, judge-no-rival, NoWord, Rivalled, is-convertible}
 use Rattle.rebac.proofs.Conversion.{score-has, score-one, word-in, word-out, mined-words, mined-terms-few, mined-items-few, no-word-verdict, rival-verdict, convertible-iff, mined-converts}
 use Rattle.house_file.specs.Check.{checkOf}
-use Rattle.house_layout.specs.declared.reply.Check.{Check}
 use Rattle.house_layout.specs.declared.reply.Check.the-variants.{Accepted, Refused}
 use Rattle.house_layout.specs.declared.reply.Refusal.{Refusal}
 use Rattle.graph.specs.Archive.{matterOf, Limits}
@@ -50,12 +49,9 @@ use Rattle.conversion.specs.Calls.{listOf, bytesOf, replyOf, verdictIn, 
 use Rattle.conversion.specs.declared.mine.MiningReply.the-variants.{Wrote}
 use Rattle.conversion.proofs.SizeLaws.{term-bound, list-bound}
 use Rattle.conversion.proofs.ReplyLaws.{reply-convertible, reply-no-word, reply-rival, reply-refused}
+use Rattle.house_layout.proofs.RecordLaws.{by-check}
+use Rattle.lists.proofs.Pieces.{getD-map, up-at}
 use Rattle.conversion.specs.Demands.{pairIn, Wordless, IsRival, Hinders, FirstPair, ShowsPath, MinesList}
-
--- by the check's reply
-pub by-check : {G : Type 0} (c : Check) → (c ≡ Accepted → G) → ((x : Refusal) → c ≡ Refused x → G) → G
-by-check Accepted g h = g refl
-by-check (Refused x) g h = h x refl
 
 -- a matter's words and rivals, from the statements to the tests
 module _ (M : Matter) where
@@ -132,12 +128,6 @@ module _ (M : Matter) where
       (first-hinders p (r .first) (record { permit = r .permit; why = inr (q, s .here) }), s)
 
 -- a table's byte by its place
-getD-up : (g : ℕ → ℕ) (a k i : ℕ) → i < k → getD (map g (upFrom a k)) i 0 ≡ g (a + i)
-unfolding upFrom
-getD-up g a zero i h = absurd (omega arith)
-getD-up g a (suc k) zero h = let z : a ≡ a + 0 = omega arith in ap g z
-getD-up g a (suc k) (suc i) h = let z : suc a + i ≡ a + suc i = omega arith in getD-up g (suc a) k i (omega arith) ∙ ap g z
-
 table-length : (M : Matter) → length (tableOf M) ≡ 1024
 unfolding tableOf range
 table-length M = length-map _ (upFrom 0 1024) ∙ up-length 0 1024
@@ -148,7 +138,7 @@ table-at M a b p q =
     let g : ℕ → ℕ = λ k. oneIf (isPair (M .parties) (k / 32) (k % 32) && permitsPair M (listOf M) (pair (k / 32) (k % 32))) in
     let d : (0 + (32 * a + b)) / 32 ≡ a = omega arith in
     let m : (0 + (32 * a + b)) % 32 ≡ b = omega arith in
-    getD-up g 0 1024 (32 * a + b) (omega arith) ∙ rw (d, m)
+    getD-map g (upFrom 0 1024) (32 * a + b) 0 0 (omega (arith, up-length 0 1024)) ∙ ap g (up-at 0 1024 (32 * a + b) 0 (omega arith)) ∙ rw (d, m)
 
 pub bytes-bound : (M : Matter) → Limits M → length (bytesOf M) ≤ 2 + 992 * 31778
 unfolding bytesOf listOf

@@ -30,7 +30,7 @@ use Rattle.graph.specs.Legal.{isPair}
 use Rattle.graph.proofs.LegalLaws.{pair-of}
 use Rattle.fields.specs.Numbers.{u16Bytes}
 use Rattle.rule_bytes.specs.ListBytes.{encodeTerm, encodeList}
-use Rattle.fields.proofs.NumberLaws.{count-size}
+use Rattle.fields.proofs.NumberLaws.{u16-size}
 use Rattle.rule_bytes.proofs.RoundTrip.{terms-more}
 use Rattle.mining.specs.Pairs.{pairAt, isPairAt, pairsFrom}
 use Rattle.mining.specs.Building.{problemIn, named, encodedTerm, termBytes}
@@ -100,7 +100,7 @@ unfolding encodeList
 list-bytes r = ap (λ (n : ℕ). u16Bytes n ++ termsOf r) (length-map plainTerm r)
 
 pub list-length : (r : RuleList Word) → length (encodeList (plainList r)) ≡ 2 + length (termsOf r)
-list-length r = ap length (list-bytes r) ∙ omega (arith, length-append (u16Bytes (length r)) (termsOf r), count-size (length r))
+list-length r = ap length (list-bytes r) ∙ omega (arith, length-append (u16Bytes (length r)) (termsOf r), u16-size (length r))
 
 terms-grow : (S : Problem Pair Word) (r : RuleList Word) (ps : List Pair) → length (termsOf r) ≤ length (termsOf (mineFrom S r ps))
 unfolding mineFrom

@@ -13,7 +13,7 @@ use Rattle.masks.specs.Table.{maskIn}
 use Rattle.masks.specs.declared.Row.{Row}
 use Rattle.masks.proofs.MaskLaws.{zero-bit}
 use Rattle.fields.specs.Writing.{put}
-use Rattle.fields.proofs.PutLaws.{put-more}
+use Rattle.fields.proofs.PutLaws.{put-more, put-first}
 use Rattle.conversion.specs.Calls.{oneIf, clearTable}
 use Rattle.conversion.specs.Passes.{rowBytes}
 use Rattle.lists.proofs.ListLaws.{up-length}
@@ -48,11 +48,6 @@ table-more b out r k v h e q =
     ∙ put-more b 0 (bytesTo r k) v (omega (arith, n, h))
     ∙ ap (λ (i : ℕ). put b 0 (bytesTo r k ++ (i ∷ []))) q
     ∙ ap (put b 0) (sym (bytes-more r k))
-
--- bytes written from the first on
-pub put-first : (b x : List ℕ) → put b 0 x ≡ x ++ drop (length x) b
-unfolding put
-put-first b x = let z : 0 + length x ≡ length x = omega arith in ap (λ (i : ℕ). x ++ drop i b) z
 
 pub table-end : (b out : List ℕ) (r : Row) → out ≡ put b 0 (bytesTo r 1024) → out ≡ rowBytes r ++ drop 1024 b
 unfolding bytesTo rowBytes

@@ -19,14 +19,13 @@ use Rattle.graph.specs.Archive.{Shows}
 use Rattle.fields.specs.Numbers.{u16Bytes}
 use Rattle.rule_bytes.specs.ListBytes.{encodeList}
 use Rattle.fields.specs.Writing.{put}
-use Rattle.fields.proofs.NumberLaws.{count-size}
-use Rattle.fields.proofs.PutLaws.{put-nil, put-put, put-before, put-length}
+use Rattle.fields.proofs.NumberLaws.{u16-size}
+use Rattle.fields.proofs.PutLaws.{put-nil, put-put, put-before, put-length, put-first}
 use Rattle.mining.specs.Pairs.{pairAt}
 use Rattle.mining.specs.Building.{problemIn, termBytes}
 use Rattle.mining.specs.Taking.{due, JudgedAs}
 use Rattle.mining.specs.declared.take.Taken.{Taken}
 use Rattle.conversion.specs.Passes.{archiveBytes}
-use Rattle.conversion.proofs.TableLaws.{put-first}
 use Rattle.conversion.proofs.PassLaws.{Passing, termsOf, terms-add, list-bytes, list-length, pass-start, pass-over, pass-term, pass-fit, pass-size, pass-end}
 
 pub record Writing (a : Archive) (old out : List ℕ) (list : RuleList Word) (row : Row) (number end k : ℕ) : Type 0 where
@@ -80,7 +79,7 @@ pub write-end : (a : Archive) (old out : List ℕ) (l : RuleList Word) (row : Ro
 unfolding archiveBytes
 write-end a old out l row number end k past room W =
     let e : l ≡ mine (problemIn a) = pass-end a l row end k past (W .pass) .0 in
-    let c = count-size number in
+    let c = u16-size number in
     let q : archiveBytes a ≡ u16Bytes number ++ termsOf l = ap (λ (r : RuleList Word). encodeList (plainList r)) (sym e) ∙ list-bytes l ∙ ap (λ (n : ℕ). u16Bytes n ++ termsOf l) (sym (W .terms)) in
     let n : 0 + length (u16Bytes number) ≡ 2 = omega (arith, c) in
     ap (λ (o : List ℕ). put o 0 (u16Bytes number)) (W .bytes ∙ ap (λ (i : ℕ). put old i (termsOf l)) (sym n))

@@ -39,6 +39,11 @@ put-put b at x y h =
     sym (drop-drop (length y) (at + length x) (put b at x)) ∙ ap (drop (length y)) d ∙ drop-drop (length y) (at + length x) b ∙ ap (λ (k : ℕ). drop k b) n in
     rw (t, r) (append-assoc (take at b) x (y ++ drop (at + length (x ++ y)) b) ∙ ap (λ (l : List ℕ). take at b ++ l) (sym (append-assoc x y (drop (at + length (x ++ y)) b))))
 
+-- a piece written at the start
+pub put-first : (b x : List ℕ) → put b 0 x ≡ x ++ drop (length x) b
+unfolding put
+put-first b x = let z : 0 + length x ≡ length x = omega arith in rw z
+
 -- one byte after a piece
 pub put-more : (b : List ℕ) (at : ℕ) (x : List ℕ) (v : ℕ) → at + length x < length b → set (put b at x) (at + length x) v ≡ put b at (x ++ (v ∷ []))
 put-more b at x v h =
@@ -58,8 +63,15 @@ put-take b at s i h k =
     let e : length (take i s) ≡ i = length-take-le i s (omega arith) in
     rw e at (put-more b at (take i s) (getD s i 0) (omega (arith, e))) ∙ ap (put b at) (sym (take-suc s i 0 k) ∙ ap (λ (n : ℕ). take n s) (sym (add-one i)))
 
+-- what was written keeps the length
+pub put-kept : (b out : List ℕ) (at : ℕ) (x : List ℕ) → out ≡ put b at x → at + length x ≤ length b → length out ≡ length b
+put-kept b out at x o h = ap length o ∙ put-length b at x h
+
 -- bytes after a piece
 module _ (b : List ℕ) (at : ℕ) (x out : List ℕ) (end : ℕ) (o : out ≡ put b at x) (e : end ≡ at + length x) where
+  pub then-put : (y : List ℕ) → at ≤ length b → put out end y ≡ put b at (x ++ y)
+  then-put y h = rw (o, e) (put-put b at x y h)
+
   pub then-one : (v : ℕ) → end < length b → set out end v ≡ put b at (x ++ (v ∷ []))
   then-one v h = rw (o, e) (put-more b at x v (omega arith))
 

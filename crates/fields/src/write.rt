@@ -5,6 +5,7 @@ ghost use lib.ListN.{length};
 ghost use Rattle.fields.specs.Numbers.{u16Bytes};
 ghost use Rattle.fields.specs.Writing.{put, Wrote};
 
+// Two bytes, the low one first.
 pub fn put_u16(out: &mut [u8], at: usize, x: usize)
     requires { ⌜ (x < 65536) × (at + 2 ≤ length (now out)) ⌝ }
     ensures { λ _. ⌜ now (out .exit) ≡ put (now (out .entry)) at (u16Bytes x) ⌝ }
@@ -13,6 +14,7 @@ pub fn put_u16(out: &mut [u8], at: usize, x: usize)
     out[at + 1] = (x / 256) as u8;
 }
 
+// The bytes of a slice, and the place after them.
 pub fn put_bytes(out: &mut [u8], at: usize, s: &[u8]) -> usize
     requires { ⌜ at + length (now s) ≤ length (now out) ⌝ }
     ensures { λ r. ⌜ Wrote (now (out .entry)) at (now (s .entry)) (now (out .exit)) r ⌝ }

@@ -38,7 +38,7 @@ pub says-same : (f : List ℕ) (r s : ℕ) → recordOf f r .target ≡ recordOf
 unfolding says
 says-same f r s t k = rw (eq-eqb _ _ t, eq-eqb _ _ k)
 
-says-target : (f : List ℕ) (t k r : ℕ) → says f t k r ≡ true → (recordOf f r .target ≡ t) × (recordOf f r .kind ≡ k)
+pub says-target : (f : List ℕ) (t k r : ℕ) → says f t k r ≡ true → (recordOf f r .target ≡ t) × (recordOf f r .kind ≡ k)
 unfolding says
 says-target f t k r e =
     by-test (eqb (recordOf f r .target) t)
@@ -46,12 +46,12 @@ says-target f t k r e =
     (λ q. clash (sym (rw q at e)))
 
 -- the turns of the chain
-chain-end : (f : List ℕ) (k r : ℕ) → r ≡ 0 → chainFrom f k r ≡ []
+pub chain-end : (f : List ℕ) (k r : ℕ) → r ≡ 0 → chainFrom f k r ≡ []
 unfolding chainFrom
 chain-end f zero r e = refl
 chain-end f (suc k) r e = rw (eq-eqb r 0 e)
 
-chain-step : (f : List ℕ) (k r : ℕ) → (r ≡ 0 → ⊥) → r ≤ recordsOf f → chainFrom f (suc k) r ≡ r ∷ chainFrom f k (recordOf f r .next)
+pub chain-step : (f : List ℕ) (k r : ℕ) → (r ≡ 0 → ⊥) → r ≤ recordsOf f → chainFrom f (suc k) r ≡ r ∷ chainFrom f k (recordOf f r .next)
 unfolding chainFrom
 chain-step f k r z l = rw (ne-eqb r 0 z, le-ltb (recordsOf f) r l)
 

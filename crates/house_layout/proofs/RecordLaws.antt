@@ -1,5 +1,5 @@
--- What a legal target and a legal kind are, and a record's checks one by one: by the outcome of each test. Assumes nothing.
-use mathlib.Core.Path.{_≡_, sym, _∙_}
+-- A check's reply by its cases, what a legal target and a legal kind are, and a record's checks one by one: by the outcome of each test. Assumes nothing.
+use mathlib.Core.Path.{_≡_, refl, sym, _∙_}
 use mathlib.Core.Logic.{_⊎_, inl, inr, ⊎-elim}
 use mathlib.Core.Bool.{Bool, true, false, not}
 use Prim.Native.Nat.{ℕ, _≤_, _<_}
@@ -15,6 +15,11 @@ use Rattle.house_layout.specs.declared.reply.Check.{Check}
 use Rattle.house_layout.specs.declared.reply.Check.the-variants.{Accepted, Refused}
 use Rattle.house_layout.specs.declared.reply.Refusal.{Refusal}
 use Rattle.house_layout.specs.declared.reply.Refusal.the-variants.{Again, Target, Kind, Repeat}
+
+-- by the check's reply
+pub by-check : {G : Type 0} (c : Check) → (c ≡ Accepted → G) → ((x : Refusal) → c ≡ Refused x → G) → G
+by-check Accepted g h = g refl
+by-check (Refused x) g h = h x refl
 
 -- a target
 pub target-below : (n u t : ℕ) → legalTarget n u t ≡ true → t < n

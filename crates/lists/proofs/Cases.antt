@@ -26,6 +26,10 @@ clash e = absurd (true≢false e)
 pub both : {G : Type 0} {b : Bool} → b ≡ true → b ≡ false → G
 both t f = clash (sym t ∙ f)
 
+-- two tests that pass together are the same
+pub test-same : {b c : Bool} → (b ≡ true → c ≡ true) → (c ≡ true → b ≡ true) → b ≡ c
+test-same {b} {c} f g = by-test b (λ e. e ∙ sym (f e)) (λ e. by-test c (λ q. g q ∙ sym q) (λ q. e ∙ sym q))
+
 pub and-false : (b : Bool) {c : Bool} → c ≡ false → (b && c) ≡ false
 and-false true e = e
 and-false false e = refl

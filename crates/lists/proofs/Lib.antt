@@ -1,4 +1,6 @@
 pub mod Cases
 pub mod ListLaws
 pub mod OrderLaws
+pub mod Distinct
 pub mod Pointwise
+pub mod Pieces

@@ -8,11 +8,11 @@ use Prim.Native.Nat.{ℕ, zero, suc, _+_, _≤_, _<_}
 use native.Mathlib.Omega.{arith}
 use lib.Dec.{leb, ltb}
 use lib.ListN.{length, length-append}
-use borrow.Author.Tests.{lt-ltb, le-leb, leb-true, leb-false}
+use borrow.Author.Tests.{lt-ltb, le-ltb, ltb-true, le-leb, leb-true, leb-false}
 use Rattle.lists.specs.Lists.{anyOf, filterBy, firstBy, flatMap, upFrom, range}
 use Rattle.lists.specs.Order.{Ascending, Distinct, headOf, sumOf}
 use Rattle.lists.proofs.Cases.{by-test, by-found, by-mem, clash, both}
-use Rattle.lists.proofs.ListLaws.{First, filter-out, map-out, up-out, find-none, find-none-of, find-some, find-in}
+use Rattle.lists.proofs.ListLaws.{First, filter-out, map-out, flat-out, up-out, find-none, find-none-of, find-some, find-in}
 
 -- k where the test passes, else 0
 abbrev pub onlyIf : Bool → ℕ → ℕ
@@ -139,6 +139,25 @@ unfolding upFrom
 up-ascending a zero = tt
 up-ascending a (suc k) = (λ y n. lt-ltb a y (up-out (suc a) k n .0), up-ascending (suc a) k)
 
+pub up-distinct : (a k : ℕ) → Distinct (upFrom a k)
+up-distinct a k = ascending-distinct ltb (λ x. le-ltb x x (omega arith)) (upFrom a k) (up-ascending a k)
+
 pub range-ascending : (n : ℕ) → Ascending ltb (range n)
 unfolding range
 range-ascending n = up-ascending 0 n
+
+-- rows one after another, each in order: by the row's number and then within the row
+pub rows-ascending : {B : Type 0} (R : B → B → Bool) (g : ℕ → ℕ → B)
+    → ((a b x y : ℕ) → a < b → R (g a x) (g b y) ≡ true) → ((a x y : ℕ) → x < y → R (g a x) (g a y) ≡ true)
+    → (f : ℕ → List ℕ) → ((a : ℕ) → Ascending ltb (f a)) → (l : List ℕ) → Ascending ltb l → Ascending R (flatMap (λ a. map (g a) (f a)) l)
+unfolding flatMap
+rows-ascending R g lower same f h [] al = tt
+rows-ascending R g lower same f h (a ∷ l) al =
+    ascending-append R (map (g a) (f a)) (flatMap (λ a. map (g a) (f a)) l)
+    (ascending-map ltb R (g a) (λ x y k. same a x y (ltb-true x y k)) (f a) (h a))
+    (rows-ascending R g lower same f h l (al .1))
+    (λ x y m n.
+    let r = map-out (g a) (f a) m in
+    let t = flat-out (λ a. map (g a) (f a)) l n in
+    let z = map-out (g (t .0)) (f (t .0)) (t .2) in
+    rw (r .2, z .2) (lower a (t .0) (r .0) (z .0) (ltb-true a (t .0) (al .0 (t .0) (t .1)))))

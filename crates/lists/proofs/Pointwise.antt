@@ -1,17 +1,18 @@
 -- List functions whose tests or values agree on the members agree; ranges and filters of a longer range. By induction on the list.
 use mathlib.Core.Path.{_≡_, refl, sym, ap, _∙_}
-use mathlib.Core.Bool.{Bool, true, false, not, _&&_}
+use mathlib.Core.Bool.{Bool, true, false, _&&_}
 use mathlib.Core.List.{List, [], _∷_, _++_, map, append-nil, List·Memᴰ, List·Memᴰ·head, List·Memᴰ·tail, List·Memᴰ·not-nil}
 use mathlib.Core.Option.{some}
 use Prim.Native.Nat.{ℕ, zero, suc, _+_, _-_, _≤_, _<_}
 use native.Mathlib.Omega.{arith}
-use lib.Dec.{eqb}
-use lib.ListN.{length, getD}
-use borrow.Author.Tests.{eqb-true, eqb-false, not-true}
+use native.Mathlib.Numerals.{add-one}
+use lib.ListN.{length, getD, take}
+use lib.Seq.{take-suc}
 use Rattle.lists.specs.Lists.{filterBy, firstBy, flatMap, upFrom, range}
 use Rattle.lists.specs.Order.{Distinct}
 use Rattle.lists.proofs.Cases.{by-test, by-mem, clash}
-use Rattle.lists.proofs.ListLaws.{filter-out, up-out}
+use Rattle.lists.proofs.Distinct.{distinct-most}
+use Rattle.lists.proofs.ListLaws.{up-out, up-length, range-in}
 
 module _ {A : Type 0} where
   pub filter-same : (p q : A → Bool) (l : List A) → ((x : A) → List·Memᴰ x l → p x ≡ q x) → filterBy p l ≡ filterBy q l
@@ -43,23 +44,20 @@ module _ {A : Type 0} where
   filter-none p [] f = refl
   filter-none p (x ∷ l) f = rw (f x (List·Memᴰ·head refl), filterBy) (filter-none p l (λ y m. f y (List·Memᴰ·tail m)))
 
-  pub filter-all : (p : A → Bool) (l : List A) → ((x : A) → List·Memᴰ x l → p x ≡ true) → filterBy p l ≡ l
-  unfolding filterBy
-  filter-all p [] f = refl
-  filter-all p (x ∷ l) f = rw (f x (List·Memᴰ·head refl), filterBy, filter-all p l (λ y m. f y (List·Memᴰ·tail m)))
-
   pub filter-append : (p : A → Bool) (l m : List A) → filterBy p (l ++ m) ≡ filterBy p l ++ filterBy p m
   unfolding filterBy
   filter-append p [] m = refl
   filter-append p (x ∷ l) m = by-test (p x) (λ q. rw (q, filterBy, filter-append p l m)) (λ q. rw (q, filterBy) (filter-append p l m))
 
-  pub distinct-filter : (p : A → Bool) (l : List A) → Distinct l → Distinct (filterBy p l)
-  unfolding filterBy
-  distinct-filter p [] d = tt
-  distinct-filter p (x ∷ l) d =
-      by-test (p x)
-      (λ q. rw (q, filterBy) (λ m. d .0 (filter-out p l m .0), distinct-filter p l (d .1)))
-      (λ q. rw (q, filterBy) (distinct-filter p l (d .1)))
+  -- the last of the elements taken: picked last where it passes, and otherwise it adds nothing
+  module _ (p : A → Bool) (l : List A) (i : ℕ) (d : A) (h : i < length l) where
+    pub filter-take-in : p (getD l i d) ≡ true → filterBy p (take (i + 1) l) ≡ filterBy p (take i l) ++ (getD l i d ∷ [])
+    unfolding filterBy
+    filter-take-in t = rw (add-one, take-suc l i d, filter-append, t, filterBy)
+
+    pub filter-take-out : p (getD l i d) ≡ false → filterBy p (take (i + 1) l) ≡ filterBy p (take i l)
+    unfolding filterBy
+    filter-take-out t = rw (add-one, take-suc l i d, filter-append, t, filterBy) (append-nil (filterBy p (take i l)))
 
 -- a filter leaves no more than there was
 pub filter-length : {A : Type 0} (p : A → Bool) (l : List A) → length (filterBy p l) ≤ length l
@@ -110,23 +108,9 @@ filter-range p n m h f =
     rw (z, filter-append, filter-none p (upFrom (0 + n) (m - n)) (λ x k. let r = up-out (0 + n) (m - n) k in f x (omega (arith, r .0)) (omega (arith, r .1)))) (append-nil (filterBy p (upFrom 0 n)))
 
 -- pigeonhole: different numbers below n are at most n
-remove-length : (k : ℕ) (l : List ℕ) → Distinct l → length l ≤ suc (length (filterBy (λ x. not (eqb k x)) l))
-unfolding filterBy
-remove-length k [] d = omega arith
-remove-length k (x ∷ l) d =
-    by-test (eqb k x)
-    (λ e. let q : k ≡ x = eqb-true k x e in
-    let z : filterBy (λ x. not (eqb k x)) l ≡ l = filter-all (λ x. not (eqb k x)) l (λ y m. by-test (eqb k y) (λ r. absurd (d .0 (rw (sym (eqb-true k y r) ∙ q) at m))) (λ r. rw r)) in
-    rw (e, filterBy, z) (omega arith))
-    (λ e. rw (e, filterBy) (omega (arith, remove-length k l (d .1))))
-
 pub distinct-short : (n : ℕ) (l : List ℕ) → Distinct l → ((x : ℕ) → List·Memᴰ x l → x < n) → length l ≤ n
-distinct-short zero [] d f = omega arith
-distinct-short zero (x ∷ l) d f = absurd (omega (arith, f x (List·Memᴰ·head refl)))
-distinct-short (suc n) l d f =
-    let r : length (filterBy (λ x. not (eqb n x)) l) ≤ n = distinct-short n (filterBy (λ x. not (eqb n x)) l) (distinct-filter (λ x. not (eqb n x)) l d)
-    (λ x m. let k = filter-out (λ x. not (eqb n x)) l m in let q : n ≡ x → ⊥ = eqb-false n x (not-true (eqb n x) (k .1)) in omega (arith, q, f x (k .0))) in
-    omega (arith, remove-length n l d)
+unfolding range
+distinct-short n l d f = omega (arith, distinct-most l (range n) d (λ x m. range-in n x (f x m)), up-length 0 n)
 
 pub map-same : {A B : Type 0} (f g : A → B) (l : List A) → ((x : A) → List·Memᴰ x l → f x ≡ g x) → map f l ≡ map g l
 map-same f g [] h = refl

@@ -31,7 +31,7 @@ use Rattle.fields.specs.Numbers.{u16Bytes, u16At}
 use Rattle.rule_bytes.specs.ListBytes.{encodeWord, encodeTerm}
 use Rattle.fields.specs.Writing.{put}
 use Rattle.rule_bytes.specs.Reading.{TermAt}
-use Rattle.fields.proofs.NumberLaws.{count-size}
+use Rattle.fields.proofs.NumberLaws.{u16-size}
 use Rattle.rule_bytes.proofs.RoundTrip.{words-more, word-size}
 use Rattle.fields.proofs.PutLaws.{put-length}
 use Rattle.rule_bytes.proofs.PlaceLaws.{term-ahead}
@@ -92,11 +92,11 @@ pub size-more : (t : Term Word) (i : Item Word) → length (encodedTerm (t ++ (i
 unfolding encodeTerm
 size-more t i =
     rw (plain-more t i, words-more (plainTerm t) (i .word))
-    (omega (arith, length-append (u16Bytes (length (plainTerm t ++ (i .word ∷ [])))) (flatMap encodeWord (plainTerm t) ++ encodeWord (i .word)), length-append (flatMap encodeWord (plainTerm t)) (encodeWord (i .word)), length-append (u16Bytes (length (plainTerm t))) (flatMap encodeWord (plainTerm t)), count-size (length (plainTerm t ++ (i .word ∷ []))), count-size (length (plainTerm t)), word-size (i .word)))
+    (omega (arith, length-append (u16Bytes (length (plainTerm t ++ (i .word ∷ [])))) (flatMap encodeWord (plainTerm t) ++ encodeWord (i .word)), length-append (flatMap encodeWord (plainTerm t)) (encodeWord (i .word)), length-append (u16Bytes (length (plainTerm t))) (flatMap encodeWord (plainTerm t)), u16-size (length (plainTerm t ++ (i .word ∷ []))), u16-size (length (plainTerm t)), word-size (i .word)))
 
 pub size-least : (t : Term Word) → 2 ≤ length (encodedTerm t)
 unfolding encodeTerm
-size-least t = omega (arith, length-append (u16Bytes (length (plainTerm t))) (flatMap encodeWord (plainTerm t)), count-size (length (plainTerm t)))
+size-least t = omega (arith, length-append (u16Bytes (length (plainTerm t))) (flatMap encodeWord (plainTerm t)), u16-size (length (plainTerm t)))
 
 module _ (S : Problem Pair Word) (p : Pair) where
   pub size-grows : (t : Term Word) (qs : List Pair) → length (encodedTerm t) ≤ length (encodedTerm (addAll S p t qs))

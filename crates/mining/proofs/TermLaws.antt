@@ -8,7 +8,7 @@ use Rattle.lists.specs.Lists.{flatMap}
 use Rattle.fields.specs.Numbers.{u16Bytes}
 use Rattle.rule_bytes.specs.ListBytes.{encodeWord, encodeTerm}
 use Rattle.fields.specs.Writing.{put}
-use Rattle.fields.proofs.NumberLaws.{count-size}
+use Rattle.fields.proofs.NumberLaws.{u16-size}
 use Rattle.rule_bytes.proofs.RoundTrip.{words-more}
 use Rattle.fields.proofs.PutLaws.{put-put, put-recount}
 
@@ -23,6 +23,6 @@ term-more b at t w h =
     let s : length (C ++ F) ≡ length C + length F = length-append C F in
     let r : length (F ++ encodeWord w) ≡ length F + length (encodeWord w) = length-append F (encodeWord w) in
     ap (λ (l : List ℕ). put l at N) (put-put b at (C ++ F) (encodeWord w) (omega arith) ∙ ap (put b at) (append-assoc C F (encodeWord w)))
-    ∙ put-recount b at C N (F ++ encodeWord w) (count-size (length t) ∙ sym (count-size (length t + 1))) (omega (arith, s, r))
+    ∙ put-recount b at C N (F ++ encodeWord w) (u16-size (length t) ∙ sym (u16-size (length t + 1))) (omega (arith, s, r))
     ∙ ap (λ (l : List ℕ). put b at (N ++ l)) (sym (words-more t w))
     ∙ ap (λ (k : ℕ). put b at (u16Bytes k ++ flatMap encodeWord (t ++ (w ∷ [])))) (sym n)

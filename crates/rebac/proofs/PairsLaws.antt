@@ -8,12 +8,12 @@ use native.Mathlib.Omega.{arith}
 use native.Mathlib.Nat.{suc-mul}
 use lib.Dec.{eqb, ltb}
 use lib.ListN.{length}
-use borrow.Author.Tests.{eqb-true, eqb-false, ne-eqb, not-true, ltb-true}
-use Rattle.lists.specs.Lists.{filterBy, flatMap, upFrom, range}
+use borrow.Author.Tests.{eqb-true, eqb-false, ne-eqb, not-true, ltb-true, lt-ltb}
+use Rattle.lists.specs.Lists.{filterBy, upFrom, range}
 use Rattle.lists.specs.Order.{Ascending, sumOf}
 use Rattle.lists.proofs.Cases.{by-test}
 use Rattle.lists.proofs.ListLaws.{filter-in, filter-out, flat-in, flat-out, map-in, map-out, range-in, range-out, up-length}
-use Rattle.lists.proofs.OrderLaws.{ascending-append, ascending-filter, range-ascending, length-map, length-flat}
+use Rattle.lists.proofs.OrderLaws.{ascending-filter, range-ascending, rows-ascending, length-map, length-flat}
 use Rattle.rebac.specs.Matter.{Pair, pair, IsPair, pairBefore, pairsOf}
 use Rattle.rebac.proofs.LexOrder.{by-first, first-lower, first-same}
 
@@ -31,24 +31,11 @@ pairs-out n m =
     let f = filter-out (λ b. not (eqb (r .0) b)) (range n) (t .1) in
     rw (t .2) (record { first = range-out n (r .1); second = range-out n (f .0); different = eqb-false (r .0) (t .0) (not-true (eqb (r .0) (t .0)) (f .1)) })
 
-row-ascending : (a : ℕ) (l : List ℕ) → Ascending ltb l → Ascending pairBefore (map (pair a) l)
-row-ascending a [] h = tt
-row-ascending a (b ∷ l) h = (λ y n. let r = map-out (pair a) l n in rw (r .2) (first-same a a (ltb b (r .0)) refl (h .0 (r .0) (r .1))), row-ascending a l (h .1))
-
-rows-ascending : (f : ℕ → List ℕ) → ((a : ℕ) → Ascending ltb (f a)) → (l : List ℕ) → Ascending ltb l → Ascending pairBefore (flatMap (λ a. map (pair a) (f a)) l)
-unfolding flatMap
-rows-ascending f h [] al = tt
-rows-ascending f h (a ∷ l) al =
-    ascending-append pairBefore (map (pair a) (f a)) (flatMap (λ a. map (pair a) (f a)) l) (row-ascending a (f a) (h a)) (rows-ascending f h l (al .1))
-    (λ x y m n.
-    let r = map-out (pair a) (f a) m in
-    let t = flat-out (λ a. map (pair a) (f a)) l n in
-    let z = map-out (pair (t .0)) (f (t .0)) (t .2) in
-    rw (r .2, z .2) (first-lower a (t .0) (ltb (r .0) (z .0)) (ltb-true a (t .0) (al .0 (t .0) (t .1)))))
-
 pub pairs-ascending : (n : ℕ) → Ascending pairBefore (pairsOf n)
 unfolding pairsOf
-pairs-ascending n = rows-ascending (λ a. filterBy (λ b. not (eqb a b)) (range n)) (λ a. ascending-filter ltb (λ b. not (eqb a b)) (range n) (range-ascending n)) (range n) (range-ascending n)
+pairs-ascending n =
+    rows-ascending pairBefore pair (λ a b x y h. first-lower a b (ltb x y) h) (λ a x y h. first-same a a (ltb x y) refl (lt-ltb x y h))
+    (λ a. filterBy (λ b. not (eqb a b)) (range n)) (λ a. ascending-filter ltb (λ b. not (eqb a b)) (range n) (range-ascending n)) (range n) (range-ascending n)
 
 -- of two pairs at most one is before the other
 pub pair-one-way : (p q : Pair) → pairBefore p q ≡ true → pairBefore q p ≡ true → ⊥

@@ -31,7 +31,8 @@ use Rattle.conversion.specs.declared.mine.MiningReply.the-variants.{Refused as 
 use Rattle.conversion.specs.declared.verdict.VerdictReply.{VerdictReply}
 use Rattle.conversion.specs.declared.verdict.VerdictReply.the-variants.{Refused, Convertible, NoWord, Rival}
 use Rattle.house_layout.proofs.RefusalNumbers.{number-small}
-use Rattle.conversion.proofs.Demand3.{by-check, convertible-accepted, convertible-verdict, mining-exact, mining-short, length-bound, no-word-parties, rival-parties}
+use Rattle.house_layout.proofs.RecordLaws.{by-check}
+use Rattle.conversion.proofs.Demand3.{convertible-accepted, convertible-verdict, mining-exact, mining-short, length-bound, no-word-parties, rival-parties}
 use Rattle.fields.specs.Decimal.{decimalText}
 use Rattle.report.specs.Report.{Inside, pairText, refusedLine, verdictLine, listPart, fileText, reportText}
 use Rattle.fields.proofs.WroteLaws.{wrote-two}

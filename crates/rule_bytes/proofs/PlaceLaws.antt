@@ -19,7 +19,7 @@ use Rattle.search.specs.Word.{Short, wordOf}
 use Rattle.rule_bytes.specs.ListBytes.{encodeWord, encodeTerm, encodeList, Parsed, parsed, decodeCount, legalWord, LegalList}
 use Rattle.graph.specs.Legal.{legalSymbol}
 use Rattle.rule_bytes.specs.Reading.{WordFits, wordAt, FitWord, FitTerm, FitList, TermAt, IsList}
-use Rattle.fields.proofs.NumberLaws.{count-size}
+use Rattle.fields.proofs.NumberLaws.{u16-size}
 use Rattle.rule_bytes.proofs.RoundTrip.{count-encode}
 use Rattle.rule_bytes.proofs.ReadingLaws.{drop-on, count-here}
 
@@ -97,7 +97,7 @@ restIn (some r) = r .rest
 
 module _ (b : List ℕ) (at n : ℕ) (s : List ℕ) (here : drop at b ≡ u16Bytes n ++ s) where
   pub count-room : at + 1 < length b
-  count-room = omega (arith, length-drop at b, ap length here, length-append (u16Bytes n) s, count-size n)
+  count-room = omega (arith, length-drop at b, ap length here, length-append (u16Bytes n) s, u16-size n)
 
   count-both : parsed (u16At b at) (drop (at + 2) b) ≡ parsed n s
   count-both = sym (count-here b at count-room) ∙ ap decodeCount here ∙ count-encode n s

@@ -12,9 +12,11 @@ use borrow.Author.Tests.{leb-true, le-leb}
 use Rattle.lists.specs.Lists.{flatMap}
 use Rattle.lists.specs.Order.{sumOf}
 use Rattle.lists.proofs.Cases.{and-left, and-right}
+use Rattle.lists.proofs.OrderLaws.{length-flat}
+use Rattle.lists.proofs.Pieces.{flat-snoc}
 use Rattle.fields.specs.Numbers.{u16Bytes, Bytes}
 use Rattle.rule_bytes.specs.ListBytes.{encodeWord, encodeTerm, encodeList, Parsed, parsed, whole, decodeCount, legalWord, decodeWord, decodeTerm, decodeTerms, decodeList, LegalTerm, LegalList}
-use Rattle.fields.proofs.NumberLaws.{count-size}
+use Rattle.fields.proofs.NumberLaws.{u16-size}
 use Rattle.rule_bytes.proofs.Parsing.{not-some, then-some, given-some, bytes-after, Back, many-encode, many-decode}
 
 -- counts
@@ -123,27 +125,17 @@ pub word-size : (w : List ℕ) → length (encodeWord w) ≡ 1 + length w
 unfolding encodeWord
 word-size w = omega arith
 
-flat-size : {A : Type 0} (e : A → List ℕ) (l : List A) → length (flatMap e l) ≡ sumOf (λ x. length (e x)) l
-unfolding flatMap sumOf
-flat-size e [] = refl
-flat-size e (x ∷ l) = length-append (e x) (flatMap e l) ∙ ap (λ (n : ℕ). length (e x) + n) (flat-size e l)
-
 pub term-size : (t : List (List ℕ)) → length (encodeTerm t) ≡ 2 + sumOf (λ w. length (encodeWord w)) t
 unfolding encodeTerm
-term-size t = omega (arith, length-append (u16Bytes (length t)) (flatMap encodeWord t), count-size (length t), flat-size encodeWord t)
+term-size t = omega (arith, length-append (u16Bytes (length t)) (flatMap encodeWord t), u16-size (length t), length-flat encodeWord t)
 
 pub list-size : (l : List (List (List ℕ))) → length (encodeList l) ≡ 2 + sumOf (λ t. length (encodeTerm t)) l
 unfolding encodeList
-list-size l = omega (arith, length-append (u16Bytes (length l)) (flatMap encodeTerm l), count-size (length l), flat-size encodeTerm l)
+list-size l = omega (arith, length-append (u16Bytes (length l)) (flatMap encodeTerm l), u16-size (length l), length-flat encodeTerm l)
 
 -- one more word, one more term
-flat-more : {A : Type 0} (e : A → List ℕ) (l : List A) (x : A) → flatMap e (l ++ (x ∷ [])) ≡ flatMap e l ++ e x
-unfolding flatMap
-flat-more e [] x = append-nil (e x)
-flat-more e (y ∷ l) x = ap (λ (s : List ℕ). e y ++ s) (flat-more e l x) ∙ sym (append-assoc (e y) (flatMap e l) (e x))
-
 pub words-more : (t : List (List ℕ)) (w : List ℕ) → flatMap encodeWord (t ++ (w ∷ [])) ≡ flatMap encodeWord t ++ encodeWord w
-words-more t w = flat-more encodeWord t w
+words-more t w = flat-snoc encodeWord t w
 
 pub terms-more : (l : List (List (List ℕ))) (t : List (List ℕ)) → flatMap encodeTerm (l ++ (t ∷ [])) ≡ flatMap encodeTerm l ++ encodeTerm t
-terms-more l t = flat-more encodeTerm l t
+terms-more l t = flat-snoc encodeTerm l t

@@ -17,7 +17,7 @@ use Rattle.rule_bytes.specs.Reading.{wordAt, FitWord, FitTerm, TermAt, IsList}
 use Rattle.fields.specs.Writing.{put}
 use Rattle.rule_text.specs.Text.{symbolText, after, joined, dot, ampersand, lineEnd, wordText, termText, listText}
 use Rattle.fields.proofs.PutLaws.{put-nil, put-put, put-length}
-use Rattle.fields.proofs.NumberLaws.{count-size}
+use Rattle.fields.proofs.NumberLaws.{u16-size}
 use Rattle.rule_bytes.proofs.PlaceLaws.{Ahead, Entry, entry, no-more, word-room, word-next, word-ends, term-ahead, list-ahead}
 
 -- T: the text of a list; what was written so far and the text of the rest give the text of all
@@ -168,7 +168,7 @@ module _ (b : List ℕ) (l : List (List (List ℕ))) (o : List ℕ) where
           let p = term-length (n .first) in
           let m : length b - place ≡ length (encodeTerm (n .first)) + length (flatMap encodeTerm (n .rest) ++ []) = sym (length-drop place b) ∙ ap length (n .bytes) ∙ length-append (encodeTerm (n .first)) (flatMap encodeTerm (n .rest) ++ []) in
           let q : length b - next ≡ length (flatMap encodeTerm (n .rest) ++ []) = sym (length-drop next b) ∙ ap length z in
-          let u : length (encodeTerm (n .first)) ≡ 2 + length (flatMap encodeWord (n .first)) = length-append (u16Bytes (length (n .first))) (flatMap encodeWord (n .first)) ∙ omega (arith, count-size (length (n .first))) in
+          let u : length (encodeTerm (n .first)) ≡ 2 + length (flatMap encodeWord (n .first)) = length-append (u16Bytes (length (n .first))) (flatMap encodeWord (n .first)) ∙ omega (arith, u16-size (length (n .first))) in
           let d : end + length (termText (n .first)) ≤ length out = omega (arith, f .room) in
           let k : length out' ≡ length out = ap length x ∙ put-length out end (termText (n .first)) d in
           record {

@@ -1,3 +1,4 @@
 pub mod Text
 pub mod Cases
 pub mod Files
+pub mod Copies

@@ -6,7 +6,7 @@ use native.Mathlib.Omega.{arith}
 use lib.ListN.{length}
 use borrow.Author.Tests.{not-true, not-false}
 use Rattle.fields.specs.Numbers.{u16Bytes}
-use Rattle.fields.proofs.NumberLaws.{count-size}
+use Rattle.fields.proofs.NumberLaws.{u16-size}
 use Rattle.fields.proofs.PutLaws.{put-length}
 use Rattle.rebac.specs.Words.{Word}
 use Rattle.rebac.specs.Rules.{RuleList}
@@ -103,7 +103,7 @@ same-length c =
     let x = c .before .before .before .before .before .before .before .before .before in
     let o = c .before .before .before .before .before .loop in
     let W = o .inv .1 in
-    ap length (c .before .before .put-u16 .ensures) ∙ put-length (o .out) 0 (u16Bytes (o .number)) (omega (arith, count-size (o .number), write-length (x .args .a) (x .args .out .now) (o .out) (x .pre .1 .1) (W .0) (o .marks) (o .number) (o .end) (o .k) (W .1), write-two (x .args .a) (x .args .out .now) (o .out) (x .pre .1 .1) (W .0) (o .marks) (o .number) (o .end) (o .k) (W .1))) ∙ write-length (x .args .a) (x .args .out .now) (o .out) (x .pre .1 .1) (W .0) (o .marks) (o .number) (o .end) (o .k) (W .1)
+    ap length (c .before .before .put-u16 .ensures) ∙ put-length (o .out) 0 (u16Bytes (o .number)) (omega (arith, u16-size (o .number), write-length (x .args .a) (x .args .out .now) (o .out) (x .pre .1 .1) (W .0) (o .marks) (o .number) (o .end) (o .k) (W .1), write-two (x .args .a) (x .args .out .now) (o .out) (x .pre .1 .1) (W .0) (o .marks) (o .number) (o .end) (o .k) (W .1))) ∙ write-length (x .args .a) (x .args .out .now) (o .out) (x .pre .1 .1) (W .0) (o .marks) (o .number) (o .end) (o .k) (W .1)
 
 returns : tie.Need-returns Inv-loop μ-loop
 returns c =

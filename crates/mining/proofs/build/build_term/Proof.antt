@@ -16,7 +16,7 @@ use Rattle.words.proofs.NextLaws.{next-not, next-some}
 use Rattle.fields.specs.Numbers.{u16Bytes}
 use Rattle.rule_bytes.specs.ListBytes.{encodeTerm}
 use Rattle.fields.specs.Writing.{put}
-use Rattle.fields.proofs.NumberLaws.{count-size}
+use Rattle.fields.proofs.NumberLaws.{u16-size}
 use Rattle.fields.proofs.PutLaws.{put-length, put-over}
 use Rattle.mining.specs.Building.{problemIn, firstBytes, termBytes}
 use Rattle.mining.proofs.FirstLaws.{no-words, first-none, first-full, first-bytes, first-size, first-part, term-least, built-over}
@@ -59,7 +59,7 @@ count c =
     let p : Pair = pair (x .args .first) (x .args .second) in
     let r : x .args .at + length (termBytes (x .args .a) p) ≤ length (x .args .out .now) = x .pre .1 .1 in
     let e = c .put-u16 .ensures in
-    (e ∙ ap (put (x .args .out .now) (x .args .at)) no-words, ap length e ∙ put-length (x .args .out .now) (x .args .at) (u16Bytes 0) (omega (arith, count-size 0, term-least (x .args .a) p, r)))
+    (e ∙ ap (put (x .args .out .now) (x .args .at)) no-words, ap length e ∙ put-length (x .args .out .now) (x .args .at) (u16Bytes 0) (omega (arith, u16-size 0, term-least (x .args .a) p, r)))
 
 add-add-word : tie.Need-add-add-word
 add-add-word c =
@@ -95,7 +95,7 @@ written c =
     let v = first (c .before .before .before .before .before .before .before) in
     let o = x .args .out .now in
     let k = count (c .before .before .before .before) in
-    c .add-word .ensures o [] refl (omega (arith, ap length no-words, count-size 0)) (k .0) (sym (k .1))
+    c .add-word .ensures o [] refl (omega (arith, ap length no-words, u16-size 0)) (k .0) (sym (k .1))
     ∙ ap (λ (l : List ℕ). put o (x .args .at) (encodeTerm (l ∷ []))) (v .1 .1)
     ∙ ap (put o (x .args .at)) (sym (first-bytes M (x .args .a) S p (v .0) (v .1 .0)))
 

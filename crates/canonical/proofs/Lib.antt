@@ -1,0 +1,14 @@
+pub mod LayoutLaws
+pub mod EntryLaws
+pub mod ChainLaws
+pub mod AcceptedLaws
+pub mod MatterLaws
+pub mod ShapeLaws
+pub mod FileLaws
+pub mod CountLaws
+pub mod WriteLaws
+pub mod StandsLaws
+pub mod DecodedLaws
+pub mod CopyLaws
+pub mod ByteLaws
+pub mod UniqueLaws

@@ -1,0 +1,98 @@
+-- The records written so far are those of the parties passed.
+use mathlib.Core.Path.{_≡_, refl, sym, ap, _∙_}
+use Prim.Native.Nat.{_+_, _-_, _*_, _≤_}
+use native.Mathlib.Numerals.{add-one}
+use native.Mathlib.Omega.{arith}
+use lib.ListN.{length}
+use Rattle.fields.specs.Writing.{put}
+use Rattle.fields.proofs.PutLaws.{put-nil, put-kept}
+use Rattle.canonical.specs.Canonical.{firstOf}
+use Rattle.canonical.specs.Masks.{matterIn}
+use Rattle.canonical.proofs.EntryLaws.{count-few}
+use Rattle.canonical.proofs.LayoutLaws.{first-step, first-most}
+use Rattle.canonical.proofs.WriteLaws.{recordsTo, records-none, records-length, records-put}
+use borrow.Author.Needs.{needs}
+use Rattle.canonical.proofs.write.put_records.Statement.{statement}
+use Rattle.canonical.proofs.write.put_records.Tie as tie
+
+abbrev Inv-loop : tie.InvT-loop
+Inv-loop out₀ h kinds f u₀ out u = (u ≤ h .parties) × ((length out ≡ length out₀) × (out ≡ put out₀ (8 + 2 * h .parties) (recordsTo (matterIn h kinds) u)))
+
+abbrev μ-loop : tie.MeasureT-loop
+μ-loop out₀ h kinds f u₀ out u = h .parties - u
+
+loop-holds : tie.Need-loop-holds Inv-loop μ-loop
+loop-holds c = (omega arith, (refl, rw records-none (sym (put-nil _ _))))
+
+mul-put-party : tie.Need-mul-put-party Inv-loop μ-loop
+mul-put-party c = search needs
+
+element-copy-out-put-party : tie.Need-element-copy-out-put-party Inv-loop μ-loop
+element-copy-out-put-party c = search needs
+
+add-put-party : tie.Need-add-put-party Inv-loop μ-loop
+add-put-party c = search needs
+
+mul-put-party-2 : tie.Need-mul-put-party-2 Inv-loop μ-loop
+mul-put-party-2 c = search needs
+
+element-copy-out-put-party-2 : tie.Need-element-copy-out-put-party-2 Inv-loop μ-loop
+element-copy-out-put-party-2 c = search needs
+
+put-party-requires : tie.Need-put-party-requires Inv-loop μ-loop
+put-party-requires c κs =
+    let l = c .before .before .before .before .before .loop in
+    let s = c .before .before .before .before .before .before .before in
+    let M = matterIn (s .args .h) (s .args .kinds) in
+    let F = s .pre .1 .1 .0 in
+    let p = F (l .u) (omega arith) in
+    let q = F (l .u + 1) (omega arith) in
+    let n = ap (firstOf M) (add-one (l .u)) ∙ first-step M (l .u) in
+    let m = first-most M (l .u + 1) (omega arith) in
+    (search needs, (search needs, (omega arith, (omega arith, (omega arith, (omega (arith, count-few M (s .pre .0) (s .pre .1 .0)), omega arith))))))
+
+add-u : tie.Need-add-u Inv-loop μ-loop
+add-u c = search needs
+
+loop-less : tie.Need-loop-less Inv-loop μ-loop
+loop-less c = search needs
+
+loop-again : tie.Need-loop-again Inv-loop μ-loop
+loop-again c =
+    let l = c .before .before .before .before .before .before .before .before .loop in
+    let s = c .before .before .before .before .before .before .before .before .before .before in
+    let M = matterIn (s .args .h) (s .args .kinds) in
+    let F = s .pre .1 .1 .0 in
+    let base = 8 + 2 * s .args .h .parties in
+    let p = records-put M (s .args .out .now) (l .out) base (l .u) _ _ (omega arith) (F (l .u) (omega arith)) (F (l .u + 1) (omega arith)) (l .inv .1 .1) in
+    let o = c .before .before .put-party .ensures ∙ p in
+    (omega arith, (put-kept (s .args .out .now) _ base _ o (omega (arith, records-length M (l .u + 1), first-most M (l .u + 1) (omega arith))), o))
+
+same-length : tie.Need-same-length Inv-loop μ-loop
+same-length c = c .before .before .loop .inv .1 .0
+
+returns : tie.Need-returns Inv-loop μ-loop
+unfolding recordsTo
+returns c =
+    let l = c .before .before .loop in
+    let e : l .u ≡ c .before .before .before .before .args .h .parties = omega arith in
+    rw e at (l .inv .1 .1)
+
+pub put-records-spec : {M : Type 1} → statement M
+put-records-spec =
+    tie.close
+    (tie.spec
+    Inv-loop
+    μ-loop
+    loop-holds
+    mul-put-party
+    element-copy-out-put-party
+    add-put-party
+    mul-put-party-2
+    element-copy-out-put-party-2
+    put-party-requires
+    add-u
+    loop-less
+    loop-again
+    same-length
+    returns)

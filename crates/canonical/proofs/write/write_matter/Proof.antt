@@ -1,0 +1,87 @@
+-- The size is the file's, by the number past the last record; the test decides the answer.
+use mathlib.Core.Path.{_≡_, refl, sym, ap, _∙_}
+use Prim.Native.Nat.{suc, _≤_}
+use native.Mathlib.Omega.{arith}
+use lib.ListN.{length}
+use Rattle.fields.specs.Writing.{put}
+use Rattle.canonical.specs.Canonical.{countOf, canonicalOf}
+use Rattle.canonical.specs.Masks.{matterIn, numbersIn}
+use Rattle.canonical.specs.declared.reply.FileReply.the-variants.{Wrote}
+use Rattle.fields.proofs.PutLaws.{put-first}
+use Rattle.canonical.proofs.EntryLaws.{count-few}
+use Rattle.canonical.proofs.StandsLaws.{stands-canonical, stands-size, past-last, short-in, fits-in}
+use borrow.Author.Needs.{needs}
+use Rattle.canonical.proofs.write.write_matter.Statement.{statement}
+use Rattle.canonical.proofs.write.write_matter.Tie as tie
+
+-- the number past the last record, and that it fits
+last : (c : tie.After-first-numbers) → numbersIn (c .first-numbers .result) (c .before .before .args .h .parties) ≡ suc (countOf (matterIn (c .before .before .args .h) (c .before .before .args .kinds)))
+last c = past-last (matterIn (c .before .before .args .h) (c .before .before .args .kinds)) (c .first-numbers .result) (c .first-numbers .ensures)
+
+few : (c : tie.After-first-numbers) → countOf (matterIn (c .before .before .args .h) (c .before .before .args .kinds)) ≤ 9216
+few c = count-few (matterIn (c .before .before .args .h) (c .before .before .args .kinds)) (search needs) (search needs)
+
+first-numbers-requires : tie.Need-first-numbers-requires
+first-numbers-requires c κs = search needs
+
+mul-records : tie.Need-mul-records
+mul-records c = search needs
+
+element-copy-out-records : tie.Need-element-copy-out-records
+element-copy-out-records c = search needs
+
+sub-records : tie.Need-sub-records
+sub-records c = omega (arith, last (c .before))
+
+mul-size : tie.Need-mul-size
+mul-size c = search needs
+
+add-size : tie.Need-add-size
+add-size c = search needs
+
+mul-size-2 : tie.Need-mul-size-2
+mul-size-2 c = omega (arith, last (c .before), few (c .before))
+
+add-size-2 : tie.Need-add-size-2
+add-size-2 c = omega (arith, last (c .before), few (c .before))
+
+returns : tie.Need-returns
+returns c =
+    λ M S.
+    let a = c .before .before .before .before .args in
+    let n = stands-size M (a .h) (a .kinds) (c .before .before .first-numbers .result) S (c .before .before .first-numbers .ensures) in
+    rw (short-in M (length (a .out .now)) (omega (arith, c .if1 .taken))) (refl, refl)
+
+put-file-requires : tie.Need-put-file-requires
+put-file-requires c κs =
+    let F = c .before .before .before .first-numbers .ensures in
+    let p = last (c .before .before .before) in
+    (search needs, (search needs, (search needs, (search needs, (F, (omega arith, omega (arith, c .before .if1 .left)))))))
+
+same-length : tie.Need-same-length
+same-length c = search needs
+
+returns-2 : tie.Need-returns-2
+returns-2 c =
+    λ M S.
+    let a = c .before .before .before .before .before .before .before .before .args in
+    let n = stands-size M (a .h) (a .kinds) (c .before .before .before .before .before .before .first-numbers .result) S (c .before .before .before .before .before .before .first-numbers .ensures) in
+    let e = fits-in M (length (a .out .now)) (omega (arith, c .before .before .before .before .if1 .left)) in
+    rw e (ap Wrote (sym n), c .before .before .put-file .ensures ∙ ap (put (a .out .now) 0) (stands-canonical M (a .h) (a .kinds) S) ∙ put-first (a .out .now) (canonicalOf M))
+
+pub write-matter-spec : {M : Type 1} → statement M
+write-matter-spec =
+    tie.close
+    (tie.spec
+    first-numbers-requires
+    mul-records
+    element-copy-out-records
+    sub-records
+    mul-size
+    add-size
+    mul-size-2
+    add-size-2
+    returns
+    put-file-requires
+    same-length
+    returns-2)

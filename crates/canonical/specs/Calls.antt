@@ -1,0 +1,43 @@
+-- Calls that write a file: what they answer and write. The copy (02, Ticket 1): an accepted file's matter, written again.
+use Prim.Native.Nat.{ℕ}
+use mathlib.Core.List.{List, [], _∷_, _++_}
+use lib.ListN.{length, drop}
+use lib.Dec.{leb}
+use Rattle.house_file.specs.Check.{checkOf}
+use Rattle.house_layout.specs.Reply.{Said, refusal, values, numberOf}
+use Rattle.house_layout.specs.declared.reply.Refusal.{Refusal}
+use Rattle.house_layout.specs.declared.reply.Refusal.the-variants.{Output}
+use Rattle.rebac.specs.Matter.{Matter}
+use Rattle.graph.specs.Archive.{matterOf}
+use Rattle.graph.specs.Refusals.{unless, afterCheck}
+use Rattle.canonical.specs.Canonical.{canonicalOf}
+use Rattle.canonical.specs.declared.reply.FileReply.{FileReply}
+use Rattle.canonical.specs.declared.reply.FileReply.the-variants.{Refused, Wrote}
+
+-- a refusal, or the file that is written
+pub data Answer : Type 0 where
+  refuses : Refusal → Answer
+  writes : List ℕ → Answer
+
+-- "It returns the length, as do later calls that write a file"
+abbrev pub replyOf : Answer → FileReply
+replyOf (refuses x) = Refused x
+replyOf (writes l) = Wrote (length l)
+
+-- the reply in 01's number and values
+abbrev pub saidFile : FileReply → Said
+saidFile (Refused x) = refusal (numberOf x)
+saidFile (Wrote k) = values (k ∷ [])
+
+-- the output then: the file stands at its start, every other byte is kept
+abbrev pub outputOf : Answer → List ℕ → List ℕ
+outputOf (refuses x) old = old
+outputOf (writes l) old = l ++ drop (length l) old
+
+-- "a short output is 14, checked last"
+unfoldable pub writeIn : Matter → ℕ → Answer
+writeIn M size = unless refuses (leb (length (canonicalOf M)) size) Output (writes (canonicalOf M))
+
+-- a file's matter, written to an output of this size
+unfoldable pub writeCall : List ℕ → ℕ → Answer
+writeCall f size = afterCheck refuses (checkOf f) (writeIn (matterOf f) size)

@@ -1,0 +1,4 @@
+pub mod Canonical
+pub mod Calls
+pub mod Shape
+pub mod Masks

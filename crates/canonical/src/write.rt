@@ -1,0 +1,154 @@
+// The canonical file's parts, written to a lent output; every other byte is kept.
+ghost use mathlib.Core.Path.{_≡_};
+ghost use Prim.Native.Nat.{ℕ, _+_, _*_, _-_, _≤_, _<_};
+ghost use lib.ListN.{length};
+ghost use Rattle.lists.specs.Lists.{flatMap, range};
+ghost use Rattle.fields.specs.Writing.{put};
+ghost use Rattle.rebac.specs.Matter.{Matter};
+ghost use Rattle.canonical.specs.Canonical.{entriesOf, countOf, link, recordsFor, headerBytes, headsBy, recordBytes, canonicalOf};
+ghost use Rattle.canonical.specs.Masks.{matterIn, Stands, kindsIn, chainBytes, pairBytes, numbersIn, FirstsOf};
+ghost use Rattle.canonical.specs.Calls.{replyOf, outputOf, writeIn};
+use crate::count::Firsts;
+use crate::count::first_numbers;
+use crate::count::kind_at;
+use crate::count::says_at;
+use crate::reply::FileReply;
+use fields::put_u16;
+use house_layout::Header;
+use house_layout::Record;
+use house_layout::Refusal;
+use masks::Table;
+
+// A head or next: the number where it is before the chain's end, else 0.
+fn link_to(end: usize, number: usize) -> usize
+    ensures { λ r. ⌜ (r ≡ link end number) × (r ≤ number) ⌝ }
+{
+    if number < end {
+        return number;
+    }
+    0
+}
+
+fn put_record(out: &mut [u8], at: usize, x: Record)
+    requires { ⌜ (x .target < 256) × ((x .kind < 256) × ((x .next < 65536) × (at + 4 ≤ length (now out)))) ⌝ }
+    ensures { λ _. ⌜ now (out .exit) ≡ put (now (out .entry)) at (recordBytes x) ⌝ }
+{
+    out[at] = x.target as u8;
+    out[at + 1] = x.kind as u8;
+    put_u16(out, at + 2, x.next);
+}
+
+// The records of one pair, from record `number` on, and the number after them. `base` is the place of record 1.
+fn put_pair(
+    out: &mut [u8],
+    base: usize,
+    target: usize,
+    labels: usize,
+    mask: u32,
+    number: usize,
+    end: usize,
+) -> usize
+    requires { ⌜ (target < 256) × ((labels ≤ 8) × ((1 ≤ number) × ((number + length (kindsIn labels mask) ≤ end) × ((end < 65536) × (base + 4 * (end - 1) ≤ length (now out)))))) ⌝ }
+    ensures { λ r. ⌜ (r ≡ number + length (kindsIn labels mask)) × (now (out .exit) ≡ put (now (out .entry)) (base + 4 * (number - 1)) (pairBytes end number target (kindsIn labels mask))) ⌝ }
+{
+    let mut next = number;
+    let mut place = 0;
+    while place <= labels {
+        if says_at(labels, mask, place) {
+            let x = Record {
+                target,
+                kind: kind_at(labels, place),
+                next: link_to(end, next + 1),
+            };
+            put_record(out, base + 4 * (next - 1), x);
+            next += 1;
+        }
+        place += 1;
+    }
+    next
+}
+
+// Party u's records, from record `number` on.
+fn put_party(out: &mut [u8], h: Header, kinds: Table, u: usize, number: usize, end: usize)
+    requires { ⌜ (h .parties ≤ 32) × ((h .labels ≤ 8) × ((u < 32) × ((1 ≤ number) × ((number + length (entriesOf (matterIn h kinds) u) ≤ end) × ((end < 65536) × (8 + 2 * h .parties + 4 * (end - 1) ≤ length (now out))))))) ⌝ }
+    ensures { λ _. ⌜ now (out .exit) ≡ put (now (out .entry)) (8 + 2 * h .parties + 4 * (number - 1)) (chainBytes end number (entriesOf (matterIn h kinds) u)) ⌝ }
+{
+    let base = 8 + 2 * h.parties;
+    let row = kinds.rows[u];
+    let mut next = number;
+    let mut v = 0;
+    while v < h.parties {
+        next = put_pair(out, base, v, h.labels, row.masks[v], next, end);
+        v += 1;
+    }
+}
+
+// The records of all parties.
+fn put_records(out: &mut [u8], h: Header, kinds: Table, f: Firsts)
+    requires { ⌜ (h .parties ≤ 32) × ((h .labels ≤ 8) × (FirstsOf (matterIn h kinds) f × (8 + 2 * h .parties + 4 * countOf (matterIn h kinds) ≤ length (now out)))) ⌝ }
+    ensures { λ _. ⌜ now (out .exit) ≡ put (now (out .entry)) (8 + 2 * h .parties) (flatMap recordBytes (flatMap (recordsFor (matterIn h kinds)) (range (h .parties)))) ⌝ }
+{
+    let mut u = 0;
+    while u < h.parties {
+        put_party(out, h, kinds, u, f.numbers[u], f.numbers[u + 1]);
+        u += 1;
+    }
+}
+
+// The heads of all parties.
+fn put_heads(out: &mut [u8], parties: usize, f: Firsts)
+    requires { ⌜ (parties ≤ 32) × ((8 + 2 * parties ≤ length (now out)) × ((u : ℕ) → u ≤ parties → numbersIn f u < 65536)) ⌝ }
+    ensures { λ _. ⌜ now (out .exit) ≡ put (now (out .entry)) 8 (headsBy (numbersIn f) parties) ⌝ }
+{
+    let mut u = 0;
+    while u < parties {
+        put_u16(out, 8 + 2 * u, link_to(f.numbers[u + 1], f.numbers[u]));
+        u += 1;
+    }
+}
+
+fn put_header(out: &mut [u8], h: Header)
+    requires { ⌜ (h .parties < 256) × ((h .labels < 256) × ((h .language < 256) × ((h .longest < 256) × ((h .records < 65536) × (8 ≤ length (now out)))))) ⌝ }
+    ensures { λ _. ⌜ now (out .exit) ≡ put (now (out .entry)) 0 (headerBytes h) ⌝ }
+{
+    out[0] = 1;
+    out[1] = h.parties as u8;
+    out[2] = h.labels as u8;
+    out[3] = h.language as u8;
+    out[4] = h.longest as u8;
+    out[5] = 0;
+    put_u16(out, 6, h.records);
+}
+
+// The whole file.
+fn put_file(out: &mut [u8], h: Header, kinds: Table, f: Firsts)
+    requires { ⌜ (h .parties ≤ 32) × ((h .labels ≤ 8) × ((h .language < 256) × ((h .longest < 256) × (FirstsOf (matterIn h kinds) f × ((h .records ≡ countOf (matterIn h kinds)) × (8 + 2 * h .parties + 4 * h .records ≤ length (now out))))))) ⌝ }
+    ensures { λ _. ⌜ now (out .exit) ≡ put (now (out .entry)) 0 (canonicalOf (matterIn h kinds)) ⌝ }
+{
+    put_header(out, h);
+    put_heads(out, h.parties, f);
+    put_records(out, h, kinds, f);
+}
+
+// Writes the canonical file of the matter that the header's numbers and the masks of kinds stand for. The header's R does not matter.
+pub fn write_matter(h: Header, kinds: Table, out: &mut [u8]) -> FileReply
+    requires { ⌜ ((M : Matter) × Stands M h kinds) ⌝ }
+    ensures { λ r. ⌜ ((M : Matter) → Stands M h kinds → (r ≡ replyOf (writeIn M (length (now (out .entry))))) × (now (out .exit) ≡ outputOf (writeIn M (length (now (out .entry)))) (now (out .entry)))) ⌝ }
+{
+    let n = h.parties;
+    let f = first_numbers(h, kinds);
+    let records = f.numbers[n] - 1;
+    let size = 8 + 2 * n + 4 * records;
+    if out.len() < size {
+        return FileReply::Refused(Refusal::Output);
+    }
+    let counted = Header {
+        parties: n,
+        labels: h.labels,
+        language: h.language,
+        longest: h.longest,
+        records,
+    };
+    put_file(out, counted, kinds, f);
+    FileReply::Wrote(size)
+}

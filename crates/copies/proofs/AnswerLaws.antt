@@ -1,0 +1,32 @@
+-- Every call looks at a file's check and at its matter only, so two accepted files with one matter are answered alike, a file and its copy among them.
+use mathlib.Core.Path.{_≡_, sym, _∙_}
+use mathlib.Core.List.{List}
+use Prim.Native.Nat.{ℕ}
+use Rattle.house_layout.specs.declared.reply.Check.the-variants.{Accepted}
+use Rattle.house_file.specs.Check.{checkOf}
+use Rattle.graph.specs.Archive.{matterOf}
+use Rattle.paths.specs.Calls as path
+use Rattle.rules.specs.Permit.{permitReply}
+use Rattle.conversion.specs.Calls as conversion
+use Rattle.canonical.specs.Calls as canonical
+use Rattle.canonical.proofs.CopyLaws.{write-copies}
+use Rattle.report.specs.Report.{fileText}
+use Rattle.copies.specs.Answers.{AnswersAs}
+
+-- two accepted files with one matter
+pub same-answers : (f g : List ℕ) → checkOf g ≡ checkOf f → matterOf g ≡ matterOf f → AnswersAs f g
+unfolding conversion.verdictCall conversion.miningCall path.pathCall path.nextCall permitReply canonical.writeCall fileText
+same-answers f g c m = record {
+  check = c;
+  verdict = rw (c, m);
+  mining = λ scratch output. rw (c, m);
+  path = λ a b w output. rw (c, m);
+  next = λ a b w output. rw (c, m);
+  permit = λ list a b. rw (c, m);
+  write = λ output. rw (c, m);
+  text = rw (c, m);
+}
+
+-- what the writer wrote for an accepted file is answered as the file
+pub copy-answers : (f c : List ℕ) → checkOf f ≡ Accepted → (size : ℕ) → canonical.writeCall f size ≡ canonical.writes c → AnswersAs f c
+copy-answers f c a size e = let k = write-copies f a size c e in same-answers f c (k .accepted ∙ sym a) (k .matter)
