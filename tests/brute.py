@@ -1,6 +1,6 @@
-"""A slow and plain reckoning of document 01, for small files.
+"""A slow and plain reckoning of document 01 and Ticket 1 of document 02, for small files.
 
-It is written from 01 alone and shares nothing with the product.
+It is written from these alone and shares nothing with the product.
 Words are tuples of symbols, pairs are tuples of two parties, and a rule list
 is a list of terms, each a list of words.
 The calls at the end return tuples such as ("refused", 4) or ("length", 7).
@@ -107,6 +107,26 @@ def decode(data):
             else:
                 edges.add((party, target, kind))
     return House(data[1], data[2], data[3], data[4], edges, permits)
+
+
+def entries(house):
+    """The relations and permits as (owner, target, kind byte), by owner, target and kind byte."""
+    return sorted(list(house.edges) + [(u, v, PERMIT_KIND) for u, v in house.permits])
+
+
+def canonical(house):
+    """The file that write makes of this matter: its records stand in the order of entries."""
+    listed = entries(house)
+    owners = [owner for owner, _, _ in listed]
+    out = bytearray([1, house.n, house.labels, house.language, house.longest, 0])
+    out += len(listed).to_bytes(2, "little")
+    for party in range(house.n):
+        head = owners.index(party) + 1 if party in owners else 0
+        out += head.to_bytes(2, "little")
+    for number, (owner, target, kind) in enumerate(listed, 1):
+        following = number + 1 if owners[number:number + 1] == [owner] else 0
+        out += bytes([target, kind]) + following.to_bytes(2, "little")
+    return bytes(out)
 
 
 # ------------------------------------------------- pairs, symbols, paths, words
@@ -498,6 +518,17 @@ def permit_reply(known, u, v, listed):
     except BrokenList:
         return ("refused", 9)
     return ("yes",) if permits_by(terms, known.least_paths(u, v)) else ("no",)
+
+
+def write_reply(data, output):
+    """The reply and output afterwards."""
+    number = check(data)
+    if number:
+        return ("refused", number), output
+    copy = canonical(decode(data))
+    if len(output) < len(copy):
+        return ("refused", 14), output
+    return ("length", len(copy)), written_over(output, copy)
 
 
 # --------------------------------------------------------- program permitconv

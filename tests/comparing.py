@@ -4,6 +4,7 @@ import os
 import resource
 import subprocess
 import tempfile
+from collections import namedtuple
 
 import script
 
@@ -13,6 +14,10 @@ DIFFERENCES_SHOWN = 5
 HEX_SHOWN = 160
 LINES_SHOWN = 4
 BEGINNINGS = tuple(name + " " for name in script.NAMES.values())
+
+# What a run is made of: cases, each row of them with a limit of the stack or None; a text about
+# them that is printed; and the demands that they don't meet, as lines of text.
+Prepared = namedtuple("Prepared", "rows text lacking")
 
 
 class Tally:
@@ -46,6 +51,21 @@ class Tally:
             self.fault("no frame was run")
         print("%d passed, %d failed" % (self.passed, self.failed), flush=True)
         return 0 if self.failed == 0 and self.passed == self.frames else 1
+
+
+def run_prepared(arguments, prepare):
+    """Run the program that the only argument names on what prepare() gives. Returns the exit status."""
+    tally = Tally()
+    if len(arguments) != 2:
+        tally.fault("usage: %s PATH_OF_CASES_BINARY" % os.path.basename(arguments[0]))
+        return tally.close()
+    prepared = prepare()
+    for cases, stack in prepared.rows:
+        run(os.path.abspath(arguments[1]), cases, tally, stack)
+    print(prepared.text)
+    for line in prepared.lacking:
+        tally.fault(line)
+    return tally.close()
 
 
 def run(binary, cases, tally, stack=None):
@@ -130,6 +150,8 @@ def show_difference(case, found):
     if parts.call in (script.PATH, script.NEXT_WORD):
         print("  pair: %d %d  given: %s  output lent: %d" % (
             parts.first, parts.second, shortened(parts.given), len(parts.output) - 2 * script.GUARD))
+    elif parts.call == script.WRITE:
+        print("  output lent: %d" % (len(parts.output) - 2 * script.GUARD))
     elif parts.call in (script.PERMIT, script.TEXT):
         print("  pair: %d %d  list: %s" % (parts.first, parts.second, shortened(parts.given)))
     print("  file: %s" % shortened(parts.data))

@@ -104,6 +104,7 @@ DEMANDS = {
     "verdict: rival of one pair changed": 1000, "verdict: rival of random permits": 1000,
     "verdict: convertible of random permits": 100, "verdict: convertible of one party": 50,
     "verdict: convertible of damaged": 50,
+    "verdict: convertible of copy": 100, "verdict: rival of copy": 100, "verdict: no-word of copy": 50,
     "verdict: no-word of a later permitted pair": 500, "verdict: rival of a later permitted pair": 500,
     "verdict: rival that is a later unpermitted pair": 500, "verdict: rival of a pair with several words": 500,
     "verdict: several rivals": 500, "verdict: rival among permitted pairs before it": 300,

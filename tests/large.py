@@ -376,12 +376,12 @@ def case(rng, graph, call):
     output = rng.randbytes(room + 2 * script.GUARD)
     frame = script.word_frame(call.call, graph.data, call.first, call.second, given, output)
     if call.answer is None:
-        return script.Case(frame, script.word_text(call.call, ("none",), output))
+        return script.Case(frame, script.output_text(call.call, ("none",), output))
     if isinstance(call.answer, int):
-        return script.Case(frame, script.word_text(call.call, ("refused", call.answer), output))
+        return script.Case(frame, script.output_text(call.call, ("refused", call.answer), output))
     written = script.GUARD + len(call.answer)
     after = output[:script.GUARD] + bytes(call.answer) + output[written:]
-    return script.Case(frame, script.word_text(call.call, ("written", len(call.answer)), after))
+    return script.Case(frame, script.output_text(call.call, ("written", len(call.answer)), after))
 
 
 def cases(rng, n=32):

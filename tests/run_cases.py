@@ -8,7 +8,6 @@ N counts frames; M counts frames and, beside them, demands on the set of files
 that are not met. The exit status is 0 only where M is 0.
 """
 
-import os
 import random
 import sys
 
@@ -147,11 +146,7 @@ def only_fault(data, at, mended):
 
 # ------------------------------------------------------------------- the run
 
-def main(arguments):
-    tally = comparing.Tally()
-    if len(arguments) != 2:
-        tally.fault("usage: run_cases.py PATH_OF_CASES_BINARY")
-        return tally.close()
+def prepare():
     frames = make_frames()
     account = Account()
     for call, data in frames:
@@ -159,15 +154,11 @@ def main(arguments):
             account.count(data)
     cases = [script.Case(script.frame(call, data), script.expected(call, data))
              for call, data in frames]
-    comparing.run(os.path.abspath(arguments[1]), cases, tally)
     checks = sum(1 for call, _ in frames if call == script.CHECK)
-    print("%d different files, %d frames: %d of check, %d of decode" % (
-        len(account.different), len(frames), checks, len(frames) - checks))
-    print(account.text())
-    for line in account.lacking():
-        tally.fault(line)
-    return tally.close()
+    text = "%d different files, %d frames: %d of check, %d of decode\n" % (
+        len(account.different), len(frames), checks, len(frames) - checks)
+    return comparing.Prepared([(cases, None)], text + account.text(), account.lacking())
 
 
 if __name__ == "__main__":
-    sys.exit(main(sys.argv))
+    sys.exit(comparing.run_prepared(sys.argv, prepare))

@@ -37,6 +37,7 @@ WIDE_GRAPHS = 60
 DAMAGED_FILES = 5000
 MOST_RIVAL_WORDS = 40
 ALL_SIZES_PART = 0.1        # of the convertible files
+COPIED_EVERY = 20           # of the files, one
 SCRATCH = brute.SCRATCH_LENGTH
 SECONDS_OF_RUN = 1500     # a call that does not end ends the run without its last line
 
@@ -190,7 +191,7 @@ def path_case(run, made, pair, word):
     if reply[0] != "parties":
         raise AssertionError("a rival has every word of the pair")
     frame = script.word_frame(script.PATH, made.data, *pair, given, output)
-    return script.Case(frame, script.word_text(script.PATH, reply, after))
+    return script.Case(frame, script.output_text(script.PATH, reply, after))
 
 
 # ------------------------------------------------------------------------ the run
@@ -219,8 +220,25 @@ def hold_packed(run):
 
 
 def ask_all(run):
-    for made in converting.drawn(run.rng, GRAPHS, WIDE_GRAPHS, DAMAGED_FILES):
+    """All calls on every file, and then on the copies of some."""
+    asked = []
+    for number, made in enumerate(converting.drawn(run.rng, GRAPHS, WIDE_GRAPHS, DAMAGED_FILES)):
         ask(run, made)
+        if number % COPIED_EVERY == 0 and not made.known.refusal:
+            asked.append(made)
+    for made in asked:
+        ask_copy(run, made)
+
+
+def ask_copy(run, made):
+    """All calls on the file's copy, where it is another file; the verdict must be the file's."""
+    copy = brute.canonical(made.known.house)
+    if copy == made.data:
+        return
+    known = brute.Known(copy)
+    if brute.verdict_reply(known) != brute.verdict_reply(made.known):
+        run.tally.fault("the copy of a file has another verdict")
+    ask(run, converting.Made("copy", copy, known))
 
 
 def with_stack(size, ask):

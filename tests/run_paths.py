@@ -10,7 +10,6 @@ counts frames and, beside them, demands on the set of frames that are not met.
 The exit status is 0 only where M is 0.
 """
 
-import os
 import random
 import sys
 from collections import Counter, namedtuple
@@ -278,7 +277,7 @@ class Collection:
         output = self.rng.randbytes(asked.room + 2 * script.GUARD)
         reply, after = script.word_reply(asked.call, known, asked.first, asked.second, given, output)
         frame = script.word_frame(asked.call, data, asked.first, asked.second, given, output)
-        self.cases.append(script.Case(frame, script.word_text(asked.call, reply, after)))
+        self.cases.append(script.Case(frame, script.output_text(asked.call, reply, after)))
         self.files.add(data)
         self.account.update(occurrences(known, asked, reply, script.word_of(given)))
         return reply
@@ -530,23 +529,14 @@ def collect():
     return collection
 
 
-def main(arguments):
-    tally = comparing.Tally()
-    if len(arguments) != 2:
-        tally.fault("usage: run_paths.py PATH_OF_CASES_BINARY")
-        return tally.close()
-    binary = os.path.abspath(arguments[1])
+def prepare():
     collection = collect()
     large_cases = large.cases(random.Random(404))
-    comparing.run(binary, collection.cases, tally)
-    comparing.run(binary, large_cases, tally, stack=STACK)
-    print("%d different files, %d frames, and %d frames of larger files" % (
-        len(collection.files), len(collection.cases), len(large_cases)))
-    print(account_text(collection.account))
-    for line in lacking(collection, large_cases):
-        tally.fault(line)
-    return tally.close()
+    text = "%d different files, %d frames, and %d frames of larger files\n" % (
+        len(collection.files), len(collection.cases), len(large_cases))
+    return comparing.Prepared([(collection.cases, None), (large_cases, STACK)],
+                              text + account_text(collection.account), lacking(collection, large_cases))
 
 
 if __name__ == "__main__":
-    sys.exit(main(sys.argv))
+    sys.exit(comparing.run_prepared(sys.argv, prepare))

@@ -9,7 +9,6 @@ counts frames and, beside them, demands on the set of frames that are not met.
 The exit status is 0 only where M is 0.
 """
 
-import os
 import random
 import sys
 from collections import Counter
@@ -492,21 +491,13 @@ def collect():
     return collection
 
 
-def main(arguments):
-    tally = comparing.Tally()
-    if len(arguments) != 2:
-        tally.fault("usage: run_permit.py PATH_OF_CASES_BINARY")
-        return tally.close()
-    binary = os.path.abspath(arguments[1])
+def prepare():
     collection = collect()
-    comparing.run(binary, collection.cases, tally)
-    print("%d different files, %d different lists, %d frames" % (
-        len(collection.files), len(collection.lists), len(collection.cases)))
-    print(run_paths.account_text(collection.account, "lists"))
-    for line in lacking(collection):
-        tally.fault(line)
-    return tally.close()
+    text = "%d different files, %d different lists, %d frames\n" % (
+        len(collection.files), len(collection.lists), len(collection.cases))
+    return comparing.Prepared([(collection.cases, None)],
+                              text + run_paths.account_text(collection.account, "lists"), lacking(collection))
 
 
 if __name__ == "__main__":
-    sys.exit(main(sys.argv))
+    sys.exit(comparing.run_prepared(sys.argv, prepare))

@@ -7,10 +7,10 @@ of the scratch, and 0. Then follow the file, the given bytes, the output's old
 bytes and the scratch's old bytes.
 
 For path and next-word the given bytes are 32: the word's length, then 31
-symbols, of which those past the length mean nothing. 16 guard bytes stand
-before the output's old bytes and 16 after them; they aren't counted in the
-output's length and aren't lent. The reply's second line has all of these bytes
-after the call.
+symbols, of which those past the length mean nothing. Write has no given bytes
+and no parties. For these three calls 16 guard bytes stand before the output's
+old bytes and 16 after them; they aren't counted in the output's length and
+aren't lent. The reply's second line has all of these bytes after the call.
 
 For permit and text the given bytes are a rule list; nothing is lent. Text has
 no parties; its reply shows the bytes of the list's text in hexadecimal.
@@ -23,6 +23,7 @@ import brute
 
 LONGEST_FILE_IN_FRAME = 60000
 LONGEST_OUTPUT = 100
+LONGEST_COPY_OUTPUT = 60000
 GUARD = 16
 SYMBOLS_GIVEN = 31
 LONGEST_LIST = 20000
@@ -33,10 +34,14 @@ PATH = "p"
 NEXT_WORD = "n"
 PERMIT = "r"
 TEXT = "x"
+WRITE = "w"
 
 # Each reply begins with a line that begins with one of these.
 NAMES = {CHECK: "check", DECODE: "decode", PATH: "path", NEXT_WORD: "next-word",
-         PERMIT: "permit", TEXT: "text"}
+         PERMIT: "permit", TEXT: "text", WRITE: "write"}
+
+# The calls whose output has guards.
+GUARDED = (PATH, NEXT_WORD, WRITE)
 
 # A frame's bytes, and the lines that are its reply.
 Case = namedtuple("Case", "frame text")
@@ -63,6 +68,13 @@ def word_frame(call, data, first, second, given, output):
     return frame(call, data, first, second, given, output, guard=GUARD)
 
 
+def write_frame(data, output):
+    """The frame of a write call; output has its guards with it."""
+    if not 0 <= len(output) - 2 * GUARD <= LONGEST_COPY_OUTPUT:
+        raise ValueError("not a frame of write")
+    return frame(WRITE, data, output=output, guard=GUARD)
+
+
 def list_frame(call, data, listed, first=0, second=0):
     """The frame of a permit or text call."""
     if len(listed) > LONGEST_LIST:
@@ -74,13 +86,18 @@ def parts_of(frame_bytes):
     """A frame taken apart."""
     call, first, second, _, *lengths, _ = struct.unpack("<cBBBIIIII", frame_bytes[:24])
     call = call.decode("ascii")
-    if call in (PATH, NEXT_WORD):
+    if call in GUARDED:
         lengths[2] += 2 * GUARD
     rest, pieces = frame_bytes[24:], []
     for length in lengths:
         pieces.append(rest[:length])
         rest = rest[length:]
     return Parts(call, first, second, *pieces)
+
+
+def frame_of(parts):
+    """The frame that has these parts."""
+    return frame(guard=GUARD if parts.call in GUARDED else 0, **parts._asdict())
 
 
 def given_bytes(length, symbols):
@@ -143,13 +160,18 @@ REPLIES = {PATH: brute.path_reply, NEXT_WORD: brute.next_word_reply}
 
 def word_reply(call, known, first, second, given, output):
     """The reply of path or next-word, and output with its guards afterwards."""
-    lent = output[GUARD:-GUARD]
-    reply, after = REPLIES[call](known, first, second, word_of(given), lent)
+    reply, after = REPLIES[call](known, first, second, word_of(given), output[GUARD:-GUARD])
     return reply, output[:GUARD] + after + output[-GUARD:]
 
 
-def word_text(call, reply, after):
-    """The two lines of path or next-word for this reply and output with its guards."""
+def write_reply(data, output):
+    """The reply of write, and output with its guards afterwards."""
+    reply, after = brute.write_reply(data, output[GUARD:-GUARD])
+    return reply, output[:GUARD] + after + output[-GUARD:]
+
+
+def output_text(call, reply, after):
+    """The two lines of path, next-word or write for this reply and output with its guards."""
     if reply[0] == "refused":
         answer = "refused %d" % reply[1]
     elif reply in (("lacks",), ("none",)):

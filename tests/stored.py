@@ -382,6 +382,44 @@ LIST_ROWS = [
     ("x", A_HEAD_1_ZERO, (0, 0), "01 00  00 00", "refused 5"),
 ]
 
+# Each row of write: what it shows, the file, the output's length, the expected answer,
+# the bytes that the output then begins with. The rest is kept.
+WRITE_ROWS = [
+    ("A is its own copy", A, 26, "26", A),
+    ("A with an output that is longer", A, 31, "26", A),
+    ("A with its records in another order: becomes A",
+     "01 03 01 00 02 00 03 00  03 00 01 00 00 00  02 00 00 00  01 00 00 00  02 FF 02 00",
+     26, "26", A),
+    ("A with party 0's chain turned round: becomes A",
+     "01 03 01 00 02 00 03 00  02 00 03 00 00 00  01 00 00 00  02 FF 01 00  02 00 00 00",
+     28, "26", A),
+    ("kinds FF, 1 and 0 to one target",
+     "01 02 02 00 01 00 03 00  01 00 00 00  01 FF 02 00  01 01 03 00  01 00 00 00",
+     24, "24",
+     "01 02 02 00 01 00 03 00  01 00 00 00  01 00 02 00  01 01 03 00  01 FF 00 00"),
+    ("H: the permit (0,1) is before the relation (0,2), the target before the kind",
+     "01 03 02 00 01 00 05 00  01 00 05 00 00 00"
+     "  01 00 02 00  01 01 03 00  02 00 04 00  01 FF 00 00  02 01 00 00",
+     34, "34",
+     "01 03 02 00 01 00 05 00  01 00 05 00 00 00"
+     "  01 00 02 00  01 01 03 00  01 FF 04 00  02 00 00 00  02 01 00 00"),
+    ("party 1's chain is empty, those of 0 and 2 are not",
+     "01 03 01 00 02 00 03 00  02 00 00 00 01 00  01 FF 03 00  01 00 00 00  00 00 00 00",
+     26, "26",
+     "01 03 01 00 02 00 03 00  01 00 00 00 02 00  01 00 00 00  00 00 03 00  01 FF 00 00"),
+    ("n 1", "01 01 01 00 01 00 00 00  00 00", 12, "10", "01 01 01 00 01 00 00 00  00 00"),
+    ("L 8 and D 31 are kept for two parties and label 1",
+     "01 02 08 02 1F 00 01 00  00 00 01 00  00 01 00 00", 16, "16",
+     "01 02 08 02 1F 00 01 00  00 00 01 00  00 01 00 00"),
+    ("A with an output one byte short", A, 25, "refused 14", ""),
+    ("A with no output", A, 0, "refused 14", ""),
+    ("A with head 1 zero", A_HEAD_1_ZERO, 26, "refused 5", ""),
+    ("A with head 1 zero and no output: the file is first", A_HEAD_1_ZERO, 0, "refused 5", ""),
+    ("A with record 2's next 01 00",
+     "01 03 01 00 02 00 03 00  01 00 03 00 00 00  01 00 02 00  02 FF 01 00  02 00 00 00",
+     30, "refused 4", ""),
+]
+
 # Old bytes of an output, and of its guards.
 OLD, FENCE = b"\xEE", b"\xDD"
 
@@ -405,10 +443,26 @@ def word_case(row):
     call, data, pair, word, room, answer, begins = row
     symbols = bytes.fromhex(word)
     given = script.given_bytes(len(symbols), symbols.ljust(script.SYMBOLS_GIVEN, b"\xBB"))
+    frame = script.word_frame(call, bytes.fromhex(data), *pair, given, fenced("", room))
+    return script.Case(frame, output_lines(call, answer, fenced(begins, room)))
+
+
+def fenced(begins, room):
+    """An output of this length that begins with these bytes, with its guards."""
     fence = script.GUARD * FENCE
-    frame = script.word_frame(call, bytes.fromhex(data), *pair, given, fence + room * OLD + fence)
-    after = fence + bytes.fromhex(begins).ljust(room, OLD) + fence
-    return script.Case(frame, "%s %s\noutput %s\n" % (script.NAMES[call], answer, after.hex().upper()))
+    return fence + bytes.fromhex(begins).ljust(room, OLD) + fence
+
+
+def output_lines(call, answer, after):
+    """The answer's line, and the line of output with its guards."""
+    return "%s %s\noutput %s\n" % (script.NAMES[call], answer, after.hex().upper())
+
+
+def write_case(row):
+    """The frame and the lines of a row of WRITE_ROWS."""
+    _, data, room, answer, begins = row
+    frame = script.write_frame(bytes.fromhex(data), fenced("", room))
+    return script.Case(frame, output_lines(script.WRITE, answer, fenced(begins, room)))
 
 
 def list_case(row):
@@ -424,15 +478,17 @@ def list_case(row):
 def cases():
     """All rows, as frames and their lines."""
     return ([file_case(row) for row in ROWS] + [word_case(row) for row in WORD_ROWS]
-            + [list_case(row) for row in LIST_ROWS])
+            + [list_case(row) for row in LIST_ROWS] + [write_case(row) for row in WRITE_ROWS])
 
 
-def reckoned(frame):
-    """The lines that brute.py gives for a frame."""
+def reckoned(frame, known=None):
+    """The lines that brute.py gives for a frame; known, where it is given, is of the frame's file."""
     parts = script.parts_of(frame)
-    known = brute.Known(parts.data)
+    if parts.call == script.WRITE:
+        return script.output_text(parts.call, *script.write_reply(parts.data, parts.output))
+    known = known or brute.Known(parts.data)
     if parts.call in (script.PATH, script.NEXT_WORD):
-        return script.word_text(parts.call, *script.word_reply(
+        return script.output_text(parts.call, *script.word_reply(
             parts.call, known, parts.first, parts.second, parts.given, parts.output))
     if parts.call == script.PERMIT:
         return script.permit_text(brute.permit_reply(known, parts.first, parts.second, parts.given))

@@ -1,4 +1,4 @@
-"""Tests of the test side itself: brute.py is held to the text of document 01.
+"""Tests of the test side itself: brute.py is held to the text of document 01 and of Ticket 1.
 
     python3 -m unittest discover -s tests        (or: python3 tests/test_brute.py)
 """
@@ -18,6 +18,7 @@ import files
 import large
 import run_paths
 import run_permit
+import run_write
 import script
 import stored
 
@@ -323,6 +324,122 @@ class Mining(unittest.TestCase):
                          (("length", 2), bytes(1024), bytes(2)))
 
 
+class Writing(unittest.TestCase):
+
+    A = "01 03 01 00 02 00 03 00  01 00 03 00 00 00  01 00 02 00  02 FF 00 00  02 00 00 00"
+
+    def becomes(self, data, text):
+        """The copy of this file, reckoned by hand, and the copy of the copy."""
+        copy = hexadecimal(text)
+        for one in (data, copy):
+            self.assertEqual(brute.check(one), 0)
+            self.assertEqual(brute.write_reply(one, b"\xAA" * (len(copy) + 3)),
+                             (("length", len(copy)), copy + b"\xAA" * 3))
+
+    def layout_of_a(self, numbers, permit_first):
+        """A's file with these numbers of the relation (0,1), the permit (0,2) and the relation (1,2)."""
+        related, permit, other = numbers
+        head, after_related, after_permit = (permit, 0, related) if permit_first else (related, permit, 0)
+        records = {related: "01 00 %02X 00" % after_related, permit: "02 FF %02X 00" % after_permit,
+                   other: "02 00 00 00"}
+        return hexadecimal("01 03 01 00 02 00 03 00  %02X 00 %02X 00 00 00" % (head, other)
+                           + records[1] + records[2] + records[3])
+
+    def test_every_order_of_a(self):
+        # Three records have six numberings, and party 0's chain of two has two orders.
+        layouts = [self.layout_of_a(numbers, permit_first)
+                   for numbers in ((1, 2, 3), (1, 3, 2), (2, 1, 3), (2, 3, 1), (3, 1, 2), (3, 2, 1))
+                   for permit_first in (False, True)]
+        self.assertEqual(len(set(layouts)), 12)
+        for data in layouts:
+            self.becomes(data, self.A)
+        header = "01 03 01 00 02 00 03 00"
+        for rest in ("01 00 03 00 00 00  01 00 02 00  02 FF 00 00  02 00 00 00",
+                     "02 00 03 00 00 00  01 00 00 00  02 FF 01 00  02 00 00 00",
+                     "01 00 03 00 00 00  02 FF 02 00  01 00 00 00  02 00 00 00",
+                     "01 00 02 00 00 00  01 00 03 00  02 00 00 00  02 FF 00 00",
+                     "03 00 01 00 00 00  02 00 00 00  01 00 00 00  02 FF 02 00"):
+            self.assertIn(hexadecimal(header + rest), layouts)
+
+    def test_by_target_and_then_by_kind(self):
+        # Party 3 has labels 0 and 7 and a permit to 0, then label 2 to 1; parties 1 and 2 have nothing.
+        data = file_with(4, [(3, 1, 2), (3, 0, 7), (3, 0, 0)], [(3, 0), (0, 3)], labels=8, language=3)
+        self.becomes(data, "01 04 08 03 02 00 05 00  01 00 00 00 00 00 02 00"
+                           "  03 FF 00 00  00 00 03 00  00 07 04 00  00 FF 05 00  01 02 00 00")
+
+    def test_empty_chains(self):
+        self.becomes(file_with(5, [(1, 0, 0), (3, 0, 0)], [(3, 4)]),
+                     "01 05 01 00 02 00 03 00  00 00 01 00 00 00 02 00 00 00"
+                     "  00 00 00 00  00 00 03 00  04 FF 00 00")
+        self.becomes(file_with(2, []), "01 02 01 00 02 00 00 00  00 00 00 00")
+        self.becomes(file_with(1, []), "01 01 01 00 02 00 00 00  00 00")
+
+    def test_nothing_is_tidied(self):
+        self.becomes(file_with(2, [(1, 0, 1)], labels=8, language=2, longest=31),
+                     "01 02 08 02 1F 00 01 00  00 00 01 00  00 01 00 00")
+
+    def test_numbers_of_two_bytes(self):
+        # Party 0 has all that can be: 31 targets, each with 8 labels and a permit. Party 1 has one record.
+        edges = [(0, v, label) for v in range(1, 32) for label in range(8)] + [(1, 0, 0)]
+        data = file_with(32, edges, [(0, v) for v in range(1, 32)], labels=8)
+        copy = brute.canonical(brute.decode(data))
+        self.assertEqual(len(copy), 8 + 64 + 4 * 280)
+        self.assertEqual(copy[:14], hexadecimal("01 20 08 00 02 00 18 01  01 00 18 01 00 00"))
+        records = copy[8 + 64:]
+        for number, text in ((1, "01 00 02 00"), (9, "01 FF 0A 00"), (10, "02 00 0B 00"), (254, "1D 01 FF 00"),
+                             (255, "1D 02 00 01"), (256, "1D 03 01 01"), (279, "1F FF 00 00"), (280, "00 00 00 00")):
+            self.assertEqual(records[4 * number - 4:4 * number], hexadecimal(text), number)
+
+    # A with changes. Each row: what is changed, a file in another order than its copy's, its copy.
+    CHANGED = [
+        ("no permit",
+         "01 03 01 00 02 00 02 00  02 00 01 00 00 00  02 00 00 00  01 00 00 00",
+         "01 03 01 00 02 00 02 00  01 00 02 00 00 00  01 00 00 00  02 00 00 00"),
+        ("permit (1,0) too",
+         "01 03 01 00 02 00 04 00  02 00 03 00 00 00  01 00 00 00  02 FF 01 00  02 00 04 00  00 FF 00 00",
+         "01 03 01 00 02 00 04 00  01 00 03 00 00 00  01 00 02 00  02 FF 00 00  00 FF 04 00  02 00 00 00"),
+        ("permit (1,2) in place of (0,2)",
+         "01 03 01 00 02 00 03 00  03 00 01 00 00 00  02 FF 02 00  02 00 00 00  01 00 00 00",
+         "01 03 01 00 02 00 03 00  01 00 02 00 00 00  01 00 00 00  02 00 03 00  02 FF 00 00"),
+        ("no relation (1,2)",
+         "01 03 01 00 02 00 02 00  02 00 00 00 00 00  01 00 00 00  02 FF 01 00",
+         "01 03 01 00 02 00 02 00  01 00 00 00 00 00  01 00 02 00  02 FF 00 00"),
+        ("relation (0,2) too",
+         "01 03 01 00 02 00 04 00  02 00 03 00 00 00  01 00 04 00  02 FF 01 00  02 00 00 00  02 00 00 00",
+         "01 03 01 00 02 00 04 00  01 00 04 00 00 00  01 00 02 00  02 00 03 00  02 FF 00 00  02 00 00 00"),
+        ("relation (1,0) in place of (1,2)",
+         "01 03 01 00 02 00 03 00  03 00 02 00 00 00  01 00 00 00  00 00 00 00  02 FF 01 00",
+         "01 03 01 00 02 00 03 00  01 00 03 00 00 00  01 00 02 00  02 FF 00 00  00 00 00 00"),
+        ("D 3",
+         "01 03 01 00 03 00 03 00  02 00 03 00 00 00  01 00 00 00  02 FF 01 00  02 00 00 00",
+         "01 03 01 00 03 00 03 00  01 00 03 00 00 00  01 00 02 00  02 FF 00 00  02 00 00 00"),
+        ("L 2",
+         "01 03 02 00 02 00 03 00  02 00 03 00 00 00  01 00 00 00  02 FF 01 00  02 00 00 00",
+         "01 03 02 00 02 00 03 00  01 00 03 00 00 00  01 00 02 00  02 FF 00 00  02 00 00 00"),
+        ("L 2, and label 1 at the relation (1,2)",
+         "01 03 02 00 02 00 03 00  02 00 03 00 00 00  01 00 00 00  02 FF 01 00  02 01 00 00",
+         "01 03 02 00 02 00 03 00  01 00 03 00 00 00  01 00 02 00  02 FF 00 00  02 01 00 00"),
+        ("language 1",
+         "01 03 01 01 02 00 03 00  02 00 03 00 00 00  01 00 00 00  02 FF 01 00  02 00 00 00",
+         "01 03 01 01 02 00 03 00  01 00 03 00 00 00  01 00 02 00  02 FF 00 00  02 00 00 00"),
+        ("n 4",
+         "01 04 01 00 02 00 03 00  02 00 03 00 00 00 00 00  01 00 00 00  02 FF 01 00  02 00 00 00",
+         "01 04 01 00 02 00 03 00  01 00 03 00 00 00 00 00  01 00 02 00  02 FF 00 00  02 00 00 00"),
+    ]
+
+    def written(self, text):
+        """What write makes of this file."""
+        return brute.write_reply(hexadecimal(text), bytes(len(hexadecimal(text))))[1]
+
+    def test_another_matter_has_another_copy(self):
+        copies = {self.written(self.A)}
+        for what, text, copy in self.CHANGED:
+            self.assertNotEqual(text, copy, what)
+            self.becomes(hexadecimal(text), copy)
+            self.assertNotIn(self.written(text), copies, what)
+            copies.add(self.written(text))
+
+
 class RuleLists(unittest.TestCase):
 
     def broken(self, text, data=None):
@@ -454,6 +571,14 @@ class RefusalOrder(unittest.TestCase):
         self.assertEqual(brute.call_verdict(self.BAD_FILE), ("refused", 2))
         self.assertEqual(brute.call_verdict(b""), ("refused", 1))
 
+    def test_write(self):
+        for room in (0, 25, 26, 40):
+            output = b"\xAA" * room
+            self.assertEqual(brute.write_reply(self.BAD_FILE, output), (("refused", 2), output))
+            self.assertEqual(brute.write_reply(b"", output), (("refused", 1), output))
+            wanted = (("refused", 14), output) if room < 26 else (("length", 26), self.A + output[26:])
+            self.assertEqual(brute.write_reply(self.A, output), wanted)
+
 
 # ------------------------------------------- second reckonings, written differently
 
@@ -468,9 +593,7 @@ def well_formed(data):
         return False
     if len(data) != 8 + 2 * n + 4 * count:
         return False
-    heads = struct.unpack("<%dH" % n, data[8:8 + 2 * n])
-    records = [None] + list(struct.iter_unpack("<BBH", data[8 + 2 * n:]))
-    chains = [follow(head, records) for head in heads]
+    records, chains = records_and_chains(data)
     if sorted(itertools.chain(*chains)) != list(range(1, count + 1)):
         return False
     for party, chain in enumerate(chains):
@@ -481,6 +604,27 @@ def well_formed(data):
             if target not in range(n) or target == party or kind not in [*range(labels), 255]:
                 return False
     return True
+
+
+def records_and_chains(data):
+    """The records of a file of the right length, by number, and the links of each party's chain."""
+    n = data[1]
+    heads = struct.unpack("<%dH" % n, data[8:8 + 2 * n])
+    records = [None] + list(struct.iter_unpack("<BBH", data[8 + 2 * n:]))
+    return records, [follow(head, records) for head in heads]
+
+
+def copy_by_chains(data):
+    """The copy of an accepted file: its own records moved, chain by chain."""
+    records, chains = records_and_chains(data)
+    heads, moved = b"", b""
+    for chain in chains:
+        sorts = sorted(records[number][:2] for number in chain)
+        first = len(moved) // 4 + 1
+        heads += struct.pack("<H", first if sorts else 0)
+        followers = [*range(first + 1, first + len(sorts)), 0]
+        moved += b"".join(struct.pack("<BBH", *sort, following) for sort, following in zip(sorts, followers))
+    return data[:8] + heads + moved
 
 
 def follow(link, records):
@@ -675,6 +819,17 @@ class SecondReckonings(unittest.TestCase):
             reply, _, output = brute.call_mining(data, bytes(1024), bytes(3000))
             self.assertEqual(output[:reply[1]], mine_by_calls(data, matter))
 
+    def test_copies(self):
+        rng = random.Random(17)
+        for number in range(600):
+            matter = files.random_matter(rng, most=400 if number % 10 == 0 else None)
+            data = files.lay_out(matter, rng).bytes()
+            copy = brute.canonical(brute.decode(data))
+            self.assertEqual(copy, copy_by_chains(data))
+            self.assertEqual(copy, copy_by_chains(copy))
+            self.assertTrue(well_formed(copy))
+            self.assertEqual(tuple(brute.decode(copy)), tuple(matter))
+
     def test_accepted_means_well_formed(self):
         rng = random.Random(15)
         made = [files.random_file(rng) for _ in range(1000)]
@@ -742,6 +897,10 @@ class Script(unittest.TestCase):
                         "  00 00 00 00  11 12  13  14 15 16  17 17 17 17"))
         self.assertEqual(len(script.frame("c", b"")), 24)
 
+    def test_a_frame_taken_apart_and_put_together(self):
+        for case in stored.cases():
+            self.assertEqual(script.frame_of(script.parts_of(case.frame)), case.frame)
+
     def test_stored_rows(self):
         self.assertEqual(stored.disagreements(), [])
 
@@ -765,11 +924,18 @@ class Script(unittest.TestCase):
         self.assertEqual(comparing.compare(texts, whole + "check accepted\n")[2], 1)
 
 
-class WordCalls(unittest.TestCase):
-    """Frames and lines of path and next-word."""
+class GuardedCalls(unittest.TestCase):
+    """Guards of an output, and the lines that show it."""
 
     BEFORE, AFTER = bytes(range(0xA0, 0xB0)), bytes(range(0xC0, 0xD0))
     BEFORE_TEXT, AFTER_TEXT = "A0A1A2A3A4A5A6A7A8A9AAABACADAEAF", "C0C1C2C3C4C5C6C7C8C9CACBCCCDCECF"
+
+    def lines(self, answer, lent):
+        return "%s\noutput %s%s%s\n" % (answer, self.BEFORE_TEXT, lent, self.AFTER_TEXT)
+
+
+class WordCalls(GuardedCalls):
+    """Frames and lines of path and next-word."""
 
     def given(self, *word):
         """The given bytes of a word, with symbols after it that are none."""
@@ -778,10 +944,7 @@ class WordCalls(unittest.TestCase):
     def text(self, call, letter, first, second, given, lent):
         output = self.BEFORE + lent + self.AFTER
         known = brute.Known(stored.case_file(letter))
-        return script.word_text(call, *script.word_reply(call, known, first, second, given, output))
-
-    def lines(self, answer, lent):
-        return "%s\noutput %s%s%s\n" % (answer, self.BEFORE_TEXT, lent, self.AFTER_TEXT)
+        return script.output_text(call, *script.word_reply(call, known, first, second, given, output))
 
     def test_a_frame_by_hand(self):
         given = self.given(0, 4)
@@ -841,7 +1004,52 @@ class WordCalls(unittest.TestCase):
         known = brute.Known(b"")
         for call, name in (("p", "path"), ("n", "next-word")):
             reply, after = script.word_reply(call, known, 9, 9, self.given(), self.BEFORE + self.AFTER)
-            self.assertEqual(script.word_text(call, reply, after), self.lines(name + " refused 1", ""))
+            self.assertEqual(script.output_text(call, reply, after), self.lines(name + " refused 1", ""))
+
+
+class WriteCalls(GuardedCalls):
+    """Frames and lines of write."""
+
+    def text(self, data, lent):
+        return script.output_text("w", *script.write_reply(data, self.BEFORE + lent + self.AFTER))
+
+    def test_a_frame_by_hand(self):
+        output = self.BEFORE + b"\x13\x14\x15" + self.AFTER
+        made = script.write_frame(b"\x11\x12", output)
+        self.assertEqual(made, hexadecimal("77 00 00 00  02 00 00 00  00 00 00 00  03 00 00 00  00 00 00 00"
+                                           "  00 00 00 00  11 12") + output)
+        self.assertEqual(script.parts_of(made), ("w", 0, 0, b"\x11\x12", b"", output, b""))
+
+    def test_the_longest_output(self):
+        script.write_frame(b"", bytes(60000 + 32))
+        for length in (31, 60001 + 32):
+            with self.assertRaises(ValueError):
+                script.write_frame(b"", bytes(length))
+
+    def test_texts(self):
+        data = hexadecimal("01 02 01 00 01 00 02 00  02 00 00 00  01 FF 00 00  01 00 01 00")
+        copy = "0102010001000200010000000100020001FF0000"
+        self.assertEqual(self.text(data, b"\x91" * 20), self.lines("write 20", copy))
+        self.assertEqual(self.text(data, b"\x91" * 22), self.lines("write 20", copy + "9191"))
+        self.assertEqual(self.text(data, b"\x91" * 19), self.lines("write refused 14", "91" * 19))
+        self.assertEqual(self.text(data, b""), self.lines("write refused 14", ""))
+        self.assertEqual(self.text(data[:-1], b"\x91" * 20), self.lines("write refused 1", "91" * 20))
+        self.assertEqual(self.text(data[:-1], b""), self.lines("write refused 1", ""))
+
+    def test_a_change_is_of_one_thing(self):
+        rng = random.Random(41)
+        changed_field = {"one permit": "permits", "one relation": "edges", "D": "longest", "L": "labels",
+                         "language": "language", "n": "n"}
+        for number in range(1800):
+            matter = files.random_matter(rng)
+            name = sorted(changed_field)[number % 6]
+            changed = run_write.CHANGES[name](rng, matter)
+            if changed is not None:
+                self.assertEqual(brute.check(files.lay_out(changed, rng).bytes()), 0)
+                differing = [field for field in matter._fields if getattr(matter, field) != getattr(changed, field)]
+                self.assertEqual(differing, [changed_field[name]])
+                for one, other in ((matter.permits, changed.permits), (matter.edges, changed.edges)):
+                    self.assertLessEqual(len(one ^ other), 1)
 
 
 class ListCalls(unittest.TestCase):
@@ -986,12 +1194,15 @@ class Running(unittest.TestCase):
         tally, shown = comparing.Tally(), io.StringIO()
         with tempfile.TemporaryDirectory() as folder, contextlib.redirect_stdout(shown):
             program = os.path.join(folder, "program")
-            with open(program, "w") as out:
-                out.write("#!/bin/sh\n" + lines)
-            os.chmod(program, 0o755)
+            self.write_program(program, lines)
             comparing.run(program, cases, tally, stack)
             status = tally.close()
         return status, shown.getvalue().splitlines()[-1]
+
+    def write_program(self, program, lines):
+        with open(program, "w") as out:
+            out.write("#!/bin/sh\n" + lines)
+        os.chmod(program, 0o755)
 
     def printing(self, text):
         return "printf '%s'\n" % text.replace("\n", "\\n")
@@ -1021,11 +1232,31 @@ class Running(unittest.TestCase):
             comparing.run("/nowhere/at/all", [script.Case(script.frame("c", b""), "check refused 1\n")], tally)
             self.assertEqual(tally.close(), 1)
 
+    def run_prepared(self, arguments, lacking):
+        """The exit status and the last line of a run of one case that passes."""
+        cases = [script.Case(script.frame("p", b""), "path 2\noutput 00\n")]
+        shown = io.StringIO()
+        with tempfile.TemporaryDirectory() as folder, contextlib.redirect_stdout(shown):
+            program = os.path.join(folder, "program")
+            self.write_program(program, self.printing(cases[0].text))
+            status = comparing.run_prepared(["run.py"] + [program] * arguments, lambda: comparing.Prepared(
+                [(cases, None), (cases, run_paths.STACK)], "a text", lacking))
+        return status, shown.getvalue().splitlines()
+
+    def test_a_demand_that_is_not_met_fails(self):
+        self.assertEqual(self.run_prepared(1, []), (0, ["a text", "2 passed, 0 failed"]))
+        self.assertEqual(self.run_prepared(1, ["a demand"]), (1, ["a text", "a demand", "2 passed, 1 failed"]))
+        for arguments in (0, 2):
+            self.assertEqual(self.run_prepared(arguments, []),
+                             (1, ["usage: run.py PATH_OF_CASES_BINARY", "0 passed, 1 failed"]))
+
     def test_every_demand_is_missed_by_nothing(self):
         lines = run_paths.lacking(run_paths.Collection(random.Random(1)), [])
         self.assertEqual(len(lines), len(run_paths.DEMANDS) + 2)
         lines = run_permit.lacking(run_permit.Collection(random.Random(1)))
         self.assertEqual(len(lines), len(run_permit.DEMANDS) + 2)
+        lines = run_write.lacking(run_write.Collection(random.Random(1)))
+        self.assertEqual(len(lines), len(run_write.DEMANDS))
 
 
 if __name__ == "__main__":
