@@ -6,7 +6,8 @@ use native.Mathlib.Omega.{arith}
 use lib.ListN.{length, getD, length-append, List·getD-append}
 use lib.Seq.{getD-append-add}
 use Rattle.lists.specs.Lists.{flatMap, range}
-use Rattle.lists.proofs.ListLaws.{up-length}
+use Rattle.lists.proofs.ListLaws.{range-out, up-length}
+use Rattle.lists.proofs.Pointwise.{flat-same}
 use Rattle.lists.proofs.Pieces.{pieces-length, pieces-at, flat-lengths, flat-step, flat-most, flat-at, up-at}
 use Rattle.fields.specs.Numbers.{byteAt, u16At, u16Bytes}
 use Rattle.fields.proofs.NumberLaws.{u16-size, u16-read}
@@ -46,6 +47,13 @@ pub heads-size : (first : ℕ → ℕ) (n : ℕ) → length (headsBy first n) �
 unfolding headsBy range
 heads-size first n = pieces-length _ 2 (λ u. u16-size _) (range n) ∙ ap (λ (k : ℕ). 2 * k) (up-length 0 n)
 
+-- heads by the same numbers
+pub heads-same : (first other : ℕ → ℕ) (n : ℕ) → ((u : ℕ) → u ≤ n → first u ≡ other u) → headsBy first n ≡ headsBy other n
+unfolding headsBy
+heads-same first other n h =
+    flat-same (λ u. u16Bytes (link (first (suc u)) (first u))) (λ u. u16Bytes (link (other (suc u)) (other u))) (range n)
+    (λ u m. let l : u < n = range-out n m in rw (h (suc u) l, h u (omega arith)))
+
 module _ (M : Matter) where
   -- the numbers of party u's records
   pub first-step : (u : ℕ) → firstOf M (suc u) ≡ firstOf M u + length (entriesOf M u)
@@ -64,7 +72,7 @@ module _ (M : Matter) where
   heads : List ℕ
   heads = headsBy (firstOf M) (M .parties)
 
-  pub records : List Record
+  records : List Record
   records = flatMap (recordsFor M) (range (M .parties))
 
   range-size : length (range (M .parties)) ≡ M .parties
@@ -164,7 +172,7 @@ module _ (M : Matter) where
       let n : u16At (canonicalOf M) (at + 2) ≡ x .next = u16-read (canonicalOf M) (at + 2) (x .next) (h 2 (omega arith)) (ap (byteAt (canonicalOf M)) y ∙ h 3 (omega arith)) in
       rw canonical-parties (λ i. record { target = t i; kind = k i; next = n i })
 
-  pub canonical-record : (r : ℕ) → 1 ≤ r → r ≤ countOf M → recordOf (canonicalOf M) r ≡ getD records (r - 1) noRecord
+  canonical-record : (r : ℕ) → 1 ≤ r → r ≤ countOf M → recordOf (canonicalOf M) r ≡ getD records (r - 1) noRecord
   canonical-record r a b = record-same r (getD records (r - 1) noRecord) (λ j g. record-byte (r - 1) j (omega arith) g)
 
   -- record i of party u's chain

@@ -1,7 +1,7 @@
 -- The canonical file depends on the numbers and on what is said of legal kinds only, so the masks that stand for a matter have its file; and how long a file is. Assumes nothing.
 use mathlib.Core.Path.{_≡_, ap, _∙_}
 use mathlib.Core.Bool.{true}
-use mathlib.Core.List.{map}
+use mathlib.Core.List.{List, map}
 use Prim.Native.Nat.{ℕ, suc, _+_, _*_, _-_, _≤_, _<_}
 use native.Mathlib.Omega.{arith}
 use lib.ListN.{length, getD}
@@ -14,13 +14,13 @@ use Rattle.rebac.specs.Matter.{Matter}
 use Rattle.house_layout.specs.Fields.{legalKind}
 use Rattle.house_layout.specs.declared.header.Header.{Header}
 use Rattle.house_layout.specs.declared.reply.Refusal.the-variants.{Output}
-use Rattle.canonical.specs.Canonical.{entry, kindBytes, saysKind, pairEntries, entriesOf, entriesBelow, countOf, firstOf, link, recordsFor, headerBytes, headsBy, headerFor, canonicalOf}
+use Rattle.canonical.specs.Canonical.{Entry, entry, kindBytes, saysKind, pairEntries, entriesOf, entriesBelow, countOf, firstOf, link, recordsFor, headerBytes, headsBy, headerFor, canonicalOf}
 use Rattle.canonical.specs.Calls.{refuses, writes, writeIn}
 use Rattle.canonical.specs.Masks.{matterIn, FirstsOf, Stands}
 use Rattle.canonical.specs.declared.count.Firsts.{Firsts}
 use Rattle.canonical.proofs.CountLaws.{says-mask}
 use Rattle.canonical.proofs.EntryLaws.{listed-kind}
-use Rattle.canonical.proofs.LayoutLaws.{canonical-size}
+use Rattle.canonical.proofs.LayoutLaws.{heads-same, canonical-size}
 
 -- two matters with the same numbers that say the same of legal kinds
 module _ (N M : Matter) (parties : N .parties ≡ M .parties) (labels : N .labels ≡ M .labels)
@@ -43,13 +43,6 @@ module _ (N M : Matter) (parties : N .parties ≡ M .parties) (labels : N .label
   count-same : countOf N ≡ countOf M
   count-same = ap (λ (n : ℕ). length (entriesBelow N n)) parties ∙ ap length (below-same (M .parties))
 
-  heads-same : headsBy (firstOf N) (N .parties) ≡ headsBy (firstOf M) (M .parties)
-  unfolding headsBy
-  heads-same =
-      ap (headsBy (firstOf N)) parties
-      ∙ flat-same (λ u. u16Bytes (link (firstOf N (suc u)) (firstOf N u))) (λ u. u16Bytes (link (firstOf M (suc u)) (firstOf M u))) (range (M .parties))
-      (λ u m. rw (below-same (suc u), below-same u))
-
   records-same : (u : ℕ) → recordsFor N u ≡ recordsFor M u
   unfolding recordsFor
   records-same u = rw (below-same (suc u), below-same u, entries-same u)
@@ -61,7 +54,7 @@ module _ (N M : Matter) (parties : N .parties ≡ M .parties) (labels : N .label
   unfolding canonicalOf
   canonical-same language longest =
       let header = ap headerBytes (header-same language longest) in
-      let heads = heads-same in
+      let heads = ap (headsBy (firstOf N)) parties ∙ heads-same (firstOf N) (firstOf M) (M .parties) (λ u l. ap (λ (es : List Entry). suc (length es)) (below-same u)) in
       let records = ap (λ (n : ℕ). flatMap (recordsFor N) (range n)) parties ∙ flat-same (recordsFor N) (recordsFor M) (range (M .parties)) (λ u m. records-same u) in
       cc
 

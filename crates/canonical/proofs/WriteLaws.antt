@@ -19,7 +19,7 @@ use Rattle.house_layout.specs.declared.record.Record.{Record}
 use Rattle.canonical.specs.Canonical.{Entry, entry, entriesOf, entriesBelow, firstOf, link, linked, recordsFor, headerBytes, headsBy, recordBytes, headerFor, canonicalOf}
 use Rattle.canonical.specs.Masks.{chainBytes, pairBytes, numbersIn, FirstsOf}
 use Rattle.canonical.specs.declared.count.Firsts.{Firsts}
-use Rattle.canonical.proofs.LayoutLaws.{record-size, header-size, heads-size, linked-length, records-below}
+use Rattle.canonical.proofs.LayoutLaws.{record-size, header-size, heads-size, heads-same, linked-length, records-below}
 
 -- a record byte after byte
 pub record-put : (b out : List ℕ) (at : ℕ) (x : Record) → at + 4 ≤ length b
@@ -115,13 +115,6 @@ module _ (first : ℕ → ℕ) where
   heads-put b out u to h t o =
       let e : headsBy first (u + 1) ≡ headsBy first u ++ u16Bytes (link (first (suc u)) (first u)) = ap (headsBy first) (add-one u) ∙ flat-suc (λ k. u16Bytes (link (first (suc k)) (first k))) u in
       rw (e, t, add-one) (then-put b 8 (headsBy first u) out (8 + 2 * u) o (omega (arith, heads-size first u)) (u16Bytes (link (first (suc u)) (first u))) h)
-
--- heads by the same numbers
-heads-same : (first other : ℕ → ℕ) (n : ℕ) → ((u : ℕ) → u ≤ n → first u ≡ other u) → headsBy first n ≡ headsBy other n
-unfolding headsBy
-heads-same first other n h =
-    flat-same (λ u. u16Bytes (link (first (suc u)) (first u))) (λ u. u16Bytes (link (other (suc u)) (other u))) (range n)
-    (λ u m. let l : u < n = range-out n m in rw (h (suc u) l, h u (omega arith)))
 
 -- the records of the parties below u
 unfoldable pub recordsTo : Matter → ℕ → List ℕ

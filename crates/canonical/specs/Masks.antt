@@ -1,9 +1,9 @@
 -- What the writer's functions promise each other: the matter that header numbers and masks of kinds say, and the numbers of its records.
-use Prim.Native.Nat.{ℕ, _≤_}
+use Prim.Native.Nat.{ℕ, _+_, _*_, _-_, _≤_, _<_}
 use mathlib.Core.Path.{_≡_}
 use mathlib.Core.Bool.{true}
 use mathlib.Core.List.{List, map}
-use lib.ListN.{getD}
+use lib.ListN.{length, getD}
 use Rattle.lists.specs.Lists.{filterBy, flatMap}
 use Rattle.masks.specs.Mask.{testBit}
 use Rattle.masks.specs.Table.{maskAt}
@@ -12,7 +12,8 @@ use Rattle.rebac.specs.Matter.{Matter}
 use Rattle.house_layout.specs.Fields.{legalKind}
 use Rattle.house_layout.specs.Kinds.{bitOf}
 use Rattle.house_layout.specs.declared.header.Header.{Header}
-use Rattle.canonical.specs.Canonical.{Entry, entry, kindBytes, saysKind, firstOf, linked, recordBytes}
+use Rattle.house_layout.specs.declared.record.Record.{Record}
+use Rattle.canonical.specs.Canonical.{Entry, entry, kindBytes, saysKind, firstOf, linked, recordBytes, entriesOf, countOf}
 use Rattle.canonical.specs.Shape.{InLimits}
 use Rattle.canonical.specs.declared.count.Firsts.{Firsts}
 
@@ -54,3 +55,45 @@ numbersIn f u = getD (f .numbers) u 0
 
 abbrev pub FirstsOf : Matter → Firsts → Type 0
 FirstsOf M f = (u : ℕ) → u ≤ M .parties → numbersIn f u ≡ firstOf M u
+
+-- numbers that fit their bytes, and room for them in an output of this size: one record at a place,
+pub record RecordFits (x : Record) (at size : ℕ) : Type 0 where
+  pub target : x .target < 256
+  pub kind : x .kind < 256
+  pub next : x .next < 65536
+  pub room : at + 4 ≤ size
+
+-- one pair's records from `number` on, in a chain that ends before `end`; record 1 stands at `base`,
+pub record PairFits (target labels mask base number end size : ℕ) : Type 0 where
+  pub party : target < 256
+  pub few : labels ≤ 8
+  pub first : 1 ≤ number
+  pub kinds : number + length (kindsIn labels mask) ≤ end
+  pub last : end < 65536
+  pub room : base + 4 * (end - 1) ≤ size
+
+-- party u's records,
+pub record PartyFits (h : Header) (k : Table) (u number end size : ℕ) : Type 0 where
+  pub parties : h .parties ≤ 32
+  pub labels : h .labels ≤ 8
+  pub party : u < 32
+  pub first : 1 ≤ number
+  pub entries : number + length (entriesOf (matterIn h k) u) ≤ end
+  pub last : end < 65536
+  pub room : 8 + 2 * h .parties + 4 * (end - 1) ≤ size
+
+-- the heads,
+pub record HeadsFit (parties : ℕ) (f : Firsts) (size : ℕ) : Type 0 where
+  pub few : parties ≤ 32
+  pub numbers : (u : ℕ) → u ≤ parties → numbersIn f u < 65536
+  pub room : 8 + 2 * parties ≤ size
+
+-- and the whole file, whose header has its number of records
+pub record FileFits (h : Header) (k : Table) (f : Firsts) (size : ℕ) : Type 0 where
+  pub parties : h .parties ≤ 32
+  pub labels : h .labels ≤ 8
+  pub language : h .language < 256
+  pub longest : h .longest < 256
+  pub records : h .records ≡ countOf (matterIn h k)
+  pub firsts : FirstsOf (matterIn h k) f
+  pub room : 8 + 2 * h .parties + 4 * h .records ≤ size

@@ -8,7 +8,8 @@ use house_layout::Check;
 
 // Writes an accepted file's matter again, in the canonical order.
 pub fn write_call(file: &[u8], out: &mut [u8]) -> FileReply
-    ensures { λ r. ⌜ (r ≡ replyOf (writeCall (now (file .entry)) (length (now (out .entry))))) × (now (out .exit) ≡ outputOf (writeCall (now (file .entry)) (length (now (out .entry)))) (now (out .entry))) ⌝ }
+    ensures { λ r. ⌜ (r ≡ replyOf (writeCall (now (file .entry)) (length (now (out .entry)))))
+        × (now (out .exit) ≡ outputOf (writeCall (now (file .entry)) (length (now (out .entry)))) (now (out .entry))) ⌝ }
 {
     let r = house_file::read(file);
     let reply = r.reply;

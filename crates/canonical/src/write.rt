@@ -6,7 +6,7 @@ ghost use Rattle.lists.specs.Lists.{flatMap, range};
 ghost use Rattle.fields.specs.Writing.{put};
 ghost use Rattle.rebac.specs.Matter.{Matter};
 ghost use Rattle.canonical.specs.Canonical.{entriesOf, countOf, link, recordsFor, headerBytes, headsBy, recordBytes, canonicalOf};
-ghost use Rattle.canonical.specs.Masks.{matterIn, Stands, kindsIn, chainBytes, pairBytes, numbersIn, FirstsOf};
+ghost use Rattle.canonical.specs.Masks.{matterIn, Stands, kindsIn, chainBytes, pairBytes, numbersIn, RecordFits, PairFits, PartyFits, HeadsFit, FileFits};
 ghost use Rattle.canonical.specs.Calls.{replyOf, outputOf, writeIn};
 use crate::count::Firsts;
 use crate::count::first_numbers;
@@ -30,7 +30,7 @@ fn link_to(end: usize, number: usize) -> usize
 }
 
 fn put_record(out: &mut [u8], at: usize, x: Record)
-    requires { ⌜ (x .target < 256) × ((x .kind < 256) × ((x .next < 65536) × (at + 4 ≤ length (now out)))) ⌝ }
+    requires { ⌜ RecordFits x at (length (now out)) ⌝ }
     ensures { λ _. ⌜ now (out .exit) ≡ put (now (out .entry)) at (recordBytes x) ⌝ }
 {
     out[at] = x.target as u8;
@@ -48,7 +48,7 @@ fn put_pair(
     number: usize,
     end: usize,
 ) -> usize
-    requires { ⌜ (target < 256) × ((labels ≤ 8) × ((1 ≤ number) × ((number + length (kindsIn labels mask) ≤ end) × ((end < 65536) × (base + 4 * (end - 1) ≤ length (now out)))))) ⌝ }
+    requires { ⌜ PairFits target labels mask base number end (length (now out)) ⌝ }
     ensures { λ r. ⌜ (r ≡ number + length (kindsIn labels mask)) × (now (out .exit) ≡ put (now (out .entry)) (base + 4 * (number - 1)) (pairBytes end number target (kindsIn labels mask))) ⌝ }
 {
     let mut next = number;
@@ -70,7 +70,7 @@ fn put_pair(
 
 // Party u's records, from record `number` on.
 fn put_party(out: &mut [u8], h: Header, kinds: Table, u: usize, number: usize, end: usize)
-    requires { ⌜ (h .parties ≤ 32) × ((h .labels ≤ 8) × ((u < 32) × ((1 ≤ number) × ((number + length (entriesOf (matterIn h kinds) u) ≤ end) × ((end < 65536) × (8 + 2 * h .parties + 4 * (end - 1) ≤ length (now out))))))) ⌝ }
+    requires { ⌜ PartyFits h kinds u number end (length (now out)) ⌝ }
     ensures { λ _. ⌜ now (out .exit) ≡ put (now (out .entry)) (8 + 2 * h .parties + 4 * (number - 1)) (chainBytes end number (entriesOf (matterIn h kinds) u)) ⌝ }
 {
     let base = 8 + 2 * h.parties;
@@ -85,7 +85,7 @@ fn put_party(out: &mut [u8], h: Header, kinds: Table, u: usize, number: usize, e
 
 // The records of all parties.
 fn put_records(out: &mut [u8], h: Header, kinds: Table, f: Firsts)
-    requires { ⌜ (h .parties ≤ 32) × ((h .labels ≤ 8) × (FirstsOf (matterIn h kinds) f × (8 + 2 * h .parties + 4 * countOf (matterIn h kinds) ≤ length (now out)))) ⌝ }
+    requires { ⌜ FileFits h kinds f (length (now out)) ⌝ }
     ensures { λ _. ⌜ now (out .exit) ≡ put (now (out .entry)) (8 + 2 * h .parties) (flatMap recordBytes (flatMap (recordsFor (matterIn h kinds)) (range (h .parties)))) ⌝ }
 {
     let mut u = 0;
@@ -97,7 +97,7 @@ fn put_records(out: &mut [u8], h: Header, kinds: Table, f: Firsts)
 
 // The heads of all parties.
 fn put_heads(out: &mut [u8], parties: usize, f: Firsts)
-    requires { ⌜ (parties ≤ 32) × ((8 + 2 * parties ≤ length (now out)) × ((u : ℕ) → u ≤ parties → numbersIn f u < 65536)) ⌝ }
+    requires { ⌜ HeadsFit parties f (length (now out)) ⌝ }
     ensures { λ _. ⌜ now (out .exit) ≡ put (now (out .entry)) 8 (headsBy (numbersIn f) parties) ⌝ }
 {
     let mut u = 0;
@@ -122,7 +122,7 @@ fn put_header(out: &mut [u8], h: Header)
 
 // The whole file.
 fn put_file(out: &mut [u8], h: Header, kinds: Table, f: Firsts)
-    requires { ⌜ (h .parties ≤ 32) × ((h .labels ≤ 8) × ((h .language < 256) × ((h .longest < 256) × (FirstsOf (matterIn h kinds) f × ((h .records ≡ countOf (matterIn h kinds)) × (8 + 2 * h .parties + 4 * h .records ≤ length (now out))))))) ⌝ }
+    requires { ⌜ FileFits h kinds f (length (now out)) ⌝ }
     ensures { λ _. ⌜ now (out .exit) ≡ put (now (out .entry)) 0 (canonicalOf (matterIn h kinds)) ⌝ }
 {
     put_header(out, h);
@@ -133,7 +133,8 @@ fn put_file(out: &mut [u8], h: Header, kinds: Table, f: Firsts)
 // Writes the canonical file of the matter that the header's numbers and the masks of kinds stand for. The header's R does not matter.
 pub fn write_matter(h: Header, kinds: Table, out: &mut [u8]) -> FileReply
     requires { ⌜ ((M : Matter) × Stands M h kinds) ⌝ }
-    ensures { λ r. ⌜ ((M : Matter) → Stands M h kinds → (r ≡ replyOf (writeIn M (length (now (out .entry))))) × (now (out .exit) ≡ outputOf (writeIn M (length (now (out .entry)))) (now (out .entry)))) ⌝ }
+    ensures { λ r. ⌜ ((M : Matter) → Stands M h kinds → (r ≡ replyOf (writeIn M (length (now (out .entry)))))
+        × (now (out .exit) ≡ outputOf (writeIn M (length (now (out .entry)))) (now (out .entry)))) ⌝ }
 {
     let n = h.parties;
     let f = first_numbers(h, kinds);

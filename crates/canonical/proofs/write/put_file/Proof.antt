@@ -27,24 +27,23 @@ after-heads c =
 
 put-header-requires : tie.Need-put-header-requires
 put-header-requires c κs =
-    let s = c .before .before in
-    let p = s .pre .1 in
-    let f = count-few (matterIn (s .args .h) (s .args .kinds)) (s .pre .0) (p .0) in
-    (omega arith, (omega arith, (p .1 .0, (p .1 .1 .0, (omega (arith, p .1 .1 .1 .1 .0), omega arith)))))
+    let p = c .before .before .pre in
+    let n = count-few (matterIn (c .before .before .args .h) (c .before .before .args .kinds)) (p .parties) (p .labels) in
+    (omega arith, (omega arith, (p .language, (p .longest, (omega arith, omega arith)))))
 
 put-heads-requires : tie.Need-put-heads-requires
 put-heads-requires c κs =
     let s = c .before .before .before .before .before .before in
     let e = after-header (c .before .before .before) in
-    let F = s .pre .1 .1 .1 .1 .0 in
     let M = matterIn (s .args .h) (s .args .kinds) in
-    (s .pre .0, (omega arith, λ u l. omega (arith, F u l, count-few M (s .pre .0) (s .pre .1 .0), first-most M u l)))
+    let n = count-few M (s .pre .parties) (s .pre .labels) in
+    record { few = s .pre .parties; numbers = λ u l. omega (arith, s .pre .firsts u l, n, first-most M u l); room = omega arith }
 
 put-records-requires : tie.Need-put-records-requires
 put-records-requires c κs =
     let p = c .before .before .before .before .before .before .before .before .before .before .pre in
     let e = after-heads (c .before .before .before) in
-    (p .0, (p .1 .0, (p .1 .1 .1 .1 .0, omega arith)))
+    record { parties = p .parties; labels = p .labels; language = p .language; longest = p .longest; records = p .records; firsts = p .firsts; room = omega arith }
 
 same-length : tie.Need-same-length
 same-length c = search needs
@@ -53,13 +52,13 @@ returns : tie.Need-returns
 unfolding recordsTo
 returns c =
     let s = c .before .before .before .before .before .before .before .before .before .before .before .before .before in
-    let p = s .pre .1 .1 .1 .1 in
+    let p = s .pre in
     let header = c .before .before .before .before .before .before .before .before .before .before .put-header .ensures in
     let heads = c .before .before .before .before .before .before .put-heads .ensures in
     let M = matterIn (s .args .h) (s .args .kinds) in
-    let n = p .1 .0 in
+    let n = p .records in
     let q : headerFor M ≡ s .args .h = λ j. record { parties = s .args .h .parties; labels = s .args .h .labels; language = s .args .h .language; longest = s .args .h .longest; records = sym n j } in
-    file-put M (s .args .h) (s .args .f) (p .0) q (s .args .out .now) _ _ _ (omega arith) header heads (c .before .before .put-records .ensures)
+    file-put M (s .args .h) (s .args .f) (p .firsts) q (s .args .out .now) _ _ _ (omega arith) header heads (c .before .before .put-records .ensures)
 
 pub put-file-spec : {M : Type 1} → statement M
 put-file-spec =

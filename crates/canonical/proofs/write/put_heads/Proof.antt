@@ -50,7 +50,7 @@ put-u16-requires : tie.Need-put-u16-requires Inv-loop μ-loop
 put-u16-requires c κs =
     let l = c .before .before .before .before .before .loop in
     let s = c .before .before .before .before .before .before .before in
-    (omega (arith, c .link-to .ensures .1, s .pre .1 .1 (l .u) (omega arith)), omega arith)
+    (omega (arith, c .link-to .ensures .1, s .pre .numbers (l .u) (omega arith)), omega arith)
 
 add-u : tie.Need-add-u Inv-loop μ-loop
 add-u c = search needs

@@ -57,7 +57,7 @@ add-put-record : tie.Need-add-put-record Inv-loop μ-loop
 add-put-record c = omega (arith, room (c .before .before .before))
 
 put-record-requires : tie.Need-put-record-requires Inv-loop μ-loop
-put-record-requires c κs = let r = room (c .before .before .before) in (search needs, (search needs, (omega arith, omega arith)))
+put-record-requires c κs = let r = room (c .before .before .before) in record { target = search needs; kind = search needs; next = omega arith; room = omega arith }
 
 add-next : tie.Need-add-next Inv-loop μ-loop
 add-next c = omega (arith, room (c .before .before .before .before .before .before))

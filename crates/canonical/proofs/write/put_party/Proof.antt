@@ -49,7 +49,7 @@ put-pair-requires c κs =
     let a = c .before .before .before .before .before .before .before .before .args in
     let n = row-step (a .h .labels) (getD (a .t3 .rows) (a .u) noRow) (a .u) (c .before .before .before .before .loop .v) in
     let r = row-room (a .h) (a .t3) (a .u) (c .before .before .before .before .loop .v) (omega arith) in
-    (omega arith, (omega arith, (omega arith, (omega (arith, n, r), (omega arith, omega arith)))))
+    record { party = omega arith; few = omega arith; first = omega arith; kinds = omega (arith, n, r); last = omega arith; room = omega arith }
 
 add-v : tie.Need-add-v Inv-loop μ-loop
 add-v c = search needs

@@ -44,12 +44,13 @@ put-party-requires c κs =
     let l = c .before .before .before .before .before .loop in
     let s = c .before .before .before .before .before .before .before in
     let M = matterIn (s .args .h) (s .args .kinds) in
-    let F = s .pre .1 .1 .0 in
+    let F = s .pre .firsts in
     let p = F (l .u) (omega arith) in
     let q = F (l .u + 1) (omega arith) in
     let n = ap (firstOf M) (add-one (l .u)) ∙ first-step M (l .u) in
     let m = first-most M (l .u + 1) (omega arith) in
-    (search needs, (search needs, (omega arith, (omega arith, (omega arith, (omega (arith, count-few M (s .pre .0) (s .pre .1 .0)), omega arith))))))
+    let k = count-few M (s .pre .parties) (s .pre .labels) in
+    record { parties = s .pre .parties; labels = s .pre .labels; party = omega arith; first = omega arith; entries = omega arith; last = omega arith; room = omega arith }
 
 add-u : tie.Need-add-u Inv-loop μ-loop
 add-u c = search needs
@@ -62,7 +63,7 @@ loop-again c =
     let l = c .before .before .before .before .before .before .before .before .loop in
     let s = c .before .before .before .before .before .before .before .before .before .before in
     let M = matterIn (s .args .h) (s .args .kinds) in
-    let F = s .pre .1 .1 .0 in
+    let F = s .pre .firsts in
     let base = 8 + 2 * s .args .h .parties in
     let p = records-put M (s .args .out .now) (l .out) base (l .u) _ _ (omega arith) (F (l .u) (omega arith)) (F (l .u + 1) (omega arith)) (l .inv .1 .1) in
     let o = c .before .before .put-party .ensures ∙ p in

@@ -15,7 +15,8 @@ use Rattle.canonical.proofs.write.write_matter.Statement.{statement}
 use Rattle.canonical.proofs.write.write_matter.Tie as tie
 
 -- the number past the last record, and that it fits
-last : (c : tie.After-first-numbers) → numbersIn (c .first-numbers .result) (c .before .before .args .h .parties) ≡ suc (countOf (matterIn (c .before .before .args .h) (c .before .before .args .kinds)))
+last : (c : tie.After-first-numbers)
+    → numbersIn (c .first-numbers .result) (c .before .before .args .h .parties) ≡ suc (countOf (matterIn (c .before .before .args .h) (c .before .before .args .kinds)))
 last c = past-last (matterIn (c .before .before .args .h) (c .before .before .args .kinds)) (c .first-numbers .result) (c .first-numbers .ensures)
 
 few : (c : tie.After-first-numbers) → countOf (matterIn (c .before .before .args .h) (c .before .before .args .kinds)) ≤ 9216
@@ -56,7 +57,7 @@ put-file-requires : tie.Need-put-file-requires
 put-file-requires c κs =
     let F = c .before .before .before .first-numbers .ensures in
     let p = last (c .before .before .before) in
-    (search needs, (search needs, (search needs, (search needs, (F, (omega arith, omega (arith, c .before .if1 .left)))))))
+    record { parties = search needs; labels = search needs; language = search needs; longest = search needs; records = omega arith; firsts = F; room = omega (arith, c .before .if1 .left) }
 
 same-length : tie.Need-same-length
 same-length c = search needs
