@@ -338,16 +338,19 @@ DEMANDS = {
     "matter: D above n - 1": 1000, "matter: D up to n - 1": 500, "matter: permits alone": 100,
     "matter: 256 records or more": 40, "matter: a chain of 279 records": 3, "matter: R 8,928": 4,
 }
-DEMANDS.update({"write: refused %d" % number: 30 for number in range(1, 9)})
-DEMANDS.update({"write: written in language %d" % language: 3000 for language in range(4)})
-DEMANDS.update({"changed: " + name: 1000 for name in CHANGES})
-DEMANDS.update({UNLIKE + answer: 200 for answer in (
-    "check accepted", "decode found", "path found", "path none", "next-word found", "next-word none",
-    "permit yes", "permit no")})
-DEMANDS.update({UNLIKE + "%s refused %d" % (name, number): 20 for name, numbers in (
-    ("path", (10, 11, 14)), ("next-word", (10, 11, 14)), ("permit", (9, 10))) for number in numbers})
-DEMANDS.update({UNLIKE + "files in language %d" % language: 20 for language in range(4)})
-DEMANDS[UNLIKE + "text found"] = 100
+
+# The same number of times for each name of a row.
+for fewest, names in (
+        (30, ["write: refused %d" % number for number in range(1, 9)]),
+        (3000, ["write: written in language %d" % language for language in range(4)]),
+        (1000, ["changed: " + name for name in CHANGES]),
+        (200, [UNLIKE + answer for answer in ("check accepted", "decode found", "path found", "path none",
+                                              "next-word found", "next-word none", "permit yes", "permit no")]),
+        (100, [UNLIKE + "text found"]),
+        (20, [UNLIKE + "%s refused %d" % (name, number) for name in ("path", "next-word") for number in (10, 11, 14)]),
+        (20, [UNLIKE + "permit refused %d" % number for number in (9, 10)]),
+        (20, [UNLIKE + "files in language %d" % language for language in range(4)])):
+    DEMANDS.update(dict.fromkeys(names, fewest))
 
 
 def lacking(collection):

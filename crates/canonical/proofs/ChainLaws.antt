@@ -39,7 +39,8 @@ module _ (M : Matter) (u : ℕ) (h : u < M .parties) where
   names-next : (r : ℕ) → firstOf M u ≤ r → r < firstOf M (suc u) → recordOf (canonicalOf M) r .next ≡ link (firstOf M (suc u)) (suc r)
   names-next r a b = ap (λ (x : Record). x .next) (chain-record r a b)
 
-  chain-from : (k r : ℕ) → firstOf M u ≤ r → r ≤ firstOf M (suc u) → firstOf M (suc u) ≤ r + k → chainFrom (canonicalOf M) k (link (firstOf M (suc u)) r) ≡ upFrom r (firstOf M (suc u) - r)
+  chain-from : (k r : ℕ) → firstOf M u ≤ r → r ≤ firstOf M (suc u) → firstOf M (suc u) ≤ r + k
+      → chainFrom (canonicalOf M) k (link (firstOf M (suc u)) r) ≡ upFrom r (firstOf M (suc u) - r)
   unfolding upFrom
   chain-from zero r a b d =
       let z : firstOf M (suc u) - r ≡ 0 = omega arith in

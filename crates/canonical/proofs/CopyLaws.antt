@@ -160,7 +160,8 @@ write-refusals f size x e =
     (λ y q. inl (file-refusals f x (q ∙ ap check.Refused (refused (rw q at e)))))
 
 -- the same over the calls: what two calls wrote is equal exactly where the files say the same
-pub written-equal : (f g : List ℕ) → checkOf f ≡ check.Accepted → checkOf g ≡ check.Accepted → (j k : ℕ) → length f ≤ j → length g ≤ k → (writeCall f j ≡ writeCall g k) ↔ SameMatter f g
+pub written-equal : (f g : List ℕ) → checkOf f ≡ check.Accepted → checkOf g ≡ check.Accepted → (j k : ℕ) → length f ≤ j → length g ≤ k
+    → (writeCall f j ≡ writeCall g k) ↔ SameMatter f g
 written-equal f g a b j k h l = (
   λ e. copies-equal f g a b .0 (written (sym (write-fits f a j h) ∙ e ∙ write-fits g b k l)),
   λ s. write-fits f a j h ∙ ap writes (copies-equal f g a b .1 s) ∙ sym (write-fits g b k l),

@@ -127,7 +127,8 @@ module _ (M : Matter) (i : InLimits M) where
   -- at most n (n - 1) (L + 1) entries
   pub entries-most : countOf M ≤ M .parties * ((M .parties - 1) * (M .labels + 1))
   unfolding entriesBelow entriesOf
-  entries-most = flat-bound (entriesOf M) ((M .parties - 1) * (M .labels + 1)) (M .parties) (λ u h. flat-skip (pairEntries M u) (M .labels + 1) (M .parties) u (λ v l. pair-few M u v) h (pair-none u))
+  entries-most =
+      flat-bound (entriesOf M) ((M .parties - 1) * (M .labels + 1)) (M .parties) (λ u h. flat-skip (pairEntries M u) (M .labels + 1) (M .parties) u (λ v l. pair-few M u v) h (pair-none u))
 
   pub entries-few : countOf M ≤ 8928
   entries-few =

@@ -79,7 +79,8 @@ module _ (end : ℕ) where
   unfolding pairBytes
   pair-length r v ks = chain-length r (map (entry 0 v) ks) ∙ ap (λ (k : ℕ). 4 * k) (length-map (entry 0 v) ks)
 
-  pair-more : (r v : ℕ) (ks : List ℕ) (k : ℕ) → pairBytes end r v (ks ++ (k ∷ [])) ≡ pairBytes end r v ks ++ recordBytes (record { target = v; kind = k; next = link end (suc (r + length ks)) })
+  pair-more : (r v : ℕ) (ks : List ℕ) (k : ℕ)
+      → pairBytes end r v (ks ++ (k ∷ [])) ≡ pairBytes end r v ks ++ recordBytes (record { target = v; kind = k; next = link end (suc (r + length ks)) })
   unfolding pairBytes chainBytes linked
   pair-more r v ks k =
       ap (chainBytes end r) (map-append (entry 0 v) ks (k ∷ []))
@@ -113,7 +114,8 @@ module _ (first : ℕ → ℕ) where
       → out ≡ put b 8 (headsBy first u) → put out (8 + 2 * u) (u16Bytes to) ≡ put b 8 (headsBy first (u + 1))
   unfolding headsBy
   heads-put b out u to h t o =
-      let e : headsBy first (u + 1) ≡ headsBy first u ++ u16Bytes (link (first (suc u)) (first u)) = ap (headsBy first) (add-one u) ∙ flat-suc (λ k. u16Bytes (link (first (suc k)) (first k))) u in
+      let e : headsBy first (u + 1) ≡ headsBy first u ++ u16Bytes (link (first (suc u)) (first u)) = ap (headsBy first) (add-one u)
+      ∙ flat-suc (λ k. u16Bytes (link (first (suc k)) (first k))) u in
       rw (e, t, add-one) (then-put b 8 (headsBy first u) out (8 + 2 * u) o (omega (arith, heads-size first u)) (u16Bytes (link (first (suc u)) (first u))) h)
 
 -- the records of the parties below u

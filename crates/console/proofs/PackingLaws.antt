@@ -109,5 +109,6 @@ mining-in-range f scratch output =
 pub verdict-numbers : (f g : List ℕ) → packVerdict (verdictCall f) ≡ packVerdict (verdictCall g) → verdictCall f ≡ verdictCall g
 verdict-numbers f g e = verdict-apart (verdictCall f) (verdictCall g) (verdict-in-range f) (verdict-in-range g) e
 
-pub mining-numbers : (f g : List ℕ) (s o t p : ℕ) → packMining (minedReply (miningCall f s o)) ≡ packMining (minedReply (miningCall g t p)) → minedReply (miningCall f s o) ≡ minedReply (miningCall g t p)
+pub mining-numbers : (f g : List ℕ) (s o t p : ℕ) → packMining (minedReply (miningCall f s o)) ≡ packMining (minedReply (miningCall g t p))
+    → minedReply (miningCall f s o) ≡ minedReply (miningCall g t p)
 mining-numbers f g s o t p e = mining-apart (minedReply (miningCall f s o)) (minedReply (miningCall g t p)) (mining-in-range f s o) (mining-in-range g t p) e

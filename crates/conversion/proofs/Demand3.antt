@@ -180,7 +180,8 @@ module _ (f : List ℕ) (e : checkOf f ≡ Accepted) where
   )
 
   -- the path call for a pair and a word of the matter, with output enough
-  path-call : (p : Pair) → IsPair (matterOf f .parties) p → (v : Word) → MatterWord (matterOf f) v → (w : WordValue) → Carries w v → (size : ℕ) → w .len + 1 ≤ size → pathCall f (p .first) (p .second) w size ≡ found (leastPath (enlarged (matterOf f)) p v)
+  path-call : (p : Pair) → IsPair (matterOf f .parties) p → (v : Word) → MatterWord (matterOf f) v → (w : WordValue) → Carries w v → (size : ℕ)
+      → w .len + 1 ≤ size → pathCall f (p .first) (p .second) w size ≡ found (leastPath (enlarged (matterOf f)) p v)
   unfolding pathCall
   path-call p h v m w c size k =
       let l = value-legal (matterOf f) v (m .over) (m .short) w c in
@@ -188,7 +189,8 @@ module _ (f : List ℕ) (e : checkOf f ≡ Accepted) where
       (path-answer (matterOf f) (p .first) (p .second) w size (pair-is (matterOf f .parties) (p .first) (p .second) h) l (λ z. absurd (omega (arith, c .len, m .some))) k
       ∙ rw (c .symbols))
 
-  path-shown : (p : Pair) → IsPair (matterOf f .parties) p → (v : Word) → HasWord (matterOf f) p v → (w : WordValue) → Carries w v → (output : List ℕ) → w .len + 1 ≤ length output → ShowsPath f p w output
+  path-shown : (p : Pair) → IsPair (matterOf f .parties) p → (v : Word) → HasWord (matterOf f) p v → (w : WordValue) → Carries w v → (output : List ℕ)
+      → w .len + 1 ≤ length output → ShowsPath f p w output
   path-shown p h v m w c output k =
       by-found (leastPath (enlarged (matterOf f)) p v)
       (λ n. both (has-in (enlarged (matterOf f)) p v (m .1 .0) (m .1 .1)) (least-none (enlarged (matterOf f)) p v .0 n))
@@ -210,7 +212,8 @@ module _ (f : List ℕ) (e : checkOf f ≡ Accepted) where
   pub no-word-exact : (x : PairValue) → verdictCall f ≡ reply.NoWord x → FirstPair (matterOf f) (Hinders (matterOf f)) (pairIn x) × Wordless (matterOf f) (pairIn x)
   no-word-exact x v = no-word-first (matterOf f) (pairIn x) (reply-no-word (length (bytesOf (matterOf f))) x (verdictOf (matterOf f)) (sym call-in ∙ v))
 
-  pub no-word-nothing : (x : PairValue) → verdictCall f ≡ reply.NoWord x → (v : Word) → MatterWord (matterOf f) v → (w : WordValue) → Carries w v → (size : ℕ) → w .len + 1 ≤ size → pathCall f (x .first) (x .second) w size ≡ nothing
+  pub no-word-nothing : (x : PairValue) → verdictCall f ≡ reply.NoWord x → (v : Word) → MatterWord (matterOf f) v → (w : WordValue) → Carries w v
+      → (size : ℕ) → w .len + 1 ≤ size → pathCall f (x .first) (x .second) w size ≡ nothing
   no-word-nothing x t v m w c size k =
       let r = no-word-exact x t in
       let n : has (enlarged (matterOf f)) (pairIn x) v ≡ false =
@@ -218,7 +221,8 @@ module _ (f : List ℕ) (e : checkOf f ≡ Accepted) where
       path-call (pairIn x) (r .0 .isPair) v m w c size k ∙ rw (least-none (enlarged (matterOf f)) (pairIn x) v .1 n)
 
   -- not convertible, a rival: the same pair, its first rival, and at every word of the pair the path call shows a path for both
-  pub rival-exact : (x y : PairValue) → verdictCall f ≡ reply.Rival x y → FirstPair (matterOf f) (Hinders (matterOf f)) (pairIn x) × FirstPair (matterOf f) (IsRival (matterOf f) (pairIn x)) (pairIn y)
+  pub rival-exact : (x y : PairValue) → verdictCall f ≡ reply.Rival x y
+      → FirstPair (matterOf f) (Hinders (matterOf f)) (pairIn x) × FirstPair (matterOf f) (IsRival (matterOf f) (pairIn x)) (pairIn y)
   rival-exact x y v = rival-first (matterOf f) (pairIn x) (pairIn y) (reply-rival (length (bytesOf (matterOf f))) x y (verdictOf (matterOf f)) (sym call-in ∙ v))
 
   pub rival-shown :
@@ -237,11 +241,13 @@ module _ (f : List ℕ) (e : checkOf f ≡ Accepted) where
       getD-below 256 (omega arith) v (λ s o. omega (arith, alphabet-below (matterOf f .language) (matterOf f .labels) (m .over s o), n .labels .1)) in
       (value-is v (omega (arith, m .short, n .longest .1)) small, value-carries v)
 
-  permits-back : (a b : ℕ) → verdictOf (matterOf f) ≡ convertible → isPair (matterOf f .parties) a b ≡ true → permitReply f (bytesOf (matterOf f)) a b ≡ yesOrNo (permitted (matterOf f) (pair a b))
+  permits-back : (a b : ℕ) → verdictOf (matterOf f) ≡ convertible → isPair (matterOf f .parties) a b ≡ true
+      → permitReply f (bytesOf (matterOf f)) a b ≡ yesOrNo (permitted (matterOf f) (pair a b))
   unfolding bytesOf listOf
   permits-back a b v p = permit-of-mined f e refl v a b p
 
-  table-back : (a b : ℕ) → a < 32 → b < 32 → verdictOf (matterOf f) ≡ convertible → getD (tableOf (matterOf f)) (32 * a + b) 0 ≡ oneIf (isPair (matterOf f .parties) a b && permitted (matterOf f) (pair a b))
+  table-back : (a b : ℕ) → a < 32 → b < 32 → verdictOf (matterOf f) ≡ convertible
+      → getD (tableOf (matterOf f)) (32 * a + b) 0 ≡ oneIf (isPair (matterOf f .parties) a b && permitted (matterOf f) (pair a b))
   unfolding listOf
   table-back a b p q v =
       table-at (matterOf f) a b p q

@@ -179,7 +179,8 @@ module _ (a : Archive) (l : RuleList Word) (row : Row) (size k : ℕ) (h : k < 1
     onward = sym (verdict-take (problemIn a) l (pairAt k) (pairsFrom (a .parties) (k + 1)) its-test) ∙ (rw (pairs-take (a .parties) k h its-pair) at (P .judged))
 
     -- it has its term
-    pub pass-term : (M : Matter) → Shows M a → judge (problemIn a) (pairAt k) ≡ convertible → (more : Row) → Marks a (l ++ (termOf (problemIn a) (pairAt k) ∷ [])) more → Passing a (l ++ (termOf (problemIn a) (pairAt k) ∷ [])) more (size + length (termBytes a (pairAt k))) (k + 1)
+    pub pass-term : (M : Matter) → Shows M a → judge (problemIn a) (pairAt k) ≡ convertible → (more : Row) → Marks a (l ++ (termOf (problemIn a) (pairAt k) ∷ [])) more
+        → Passing a (l ++ (termOf (problemIn a) (pairAt k) ∷ [])) more (size + length (termBytes a (pairAt k))) (k + 1)
     unfolding termBytes
     pass-term M s j more m = record {
       marks = m;
@@ -207,12 +208,14 @@ module _ (a : Archive) (l : RuleList Word) (row : Row) (size k : ℕ) (h : k < 1
     stops (noWord x) d j = sym (rw j at onward)
     stops (rivalled x q) d j = sym (rw j at onward)
 
-    pub pass-wordless : (at : ℕ) (old new : List ℕ) (t : Taken) (v : Verdict Pair) → judge (problemIn a) (pairAt k) ≡ v → JudgedAs a l k at old new v t → t .judgment ≡ Wordless → verdict (problemIn a) ≡ noWord (pairAt k)
+    pub pass-wordless : (at : ℕ) (old new : List ℕ) (t : Taken) (v : Verdict Pair) → judge (problemIn a) (pairAt k) ≡ v → JudgedAs a l k at old new v t
+        → t .judgment ≡ Wordless → verdict (problemIn a) ≡ noWord (pairAt k)
     pass-wordless at old new t convertible j f e = clash (cc (sym (f .0) ∙ e))
     pass-wordless at old new t (noWord x) j f e = stops (noWord x) (λ q. clash (cc q)) j ∙ ap noWord (own-no-word (problemIn a) (pairAt k) j)
     pass-wordless at old new t (rivalled x q) j f e = clash (cc (sym f ∙ e))
 
-    pub pass-rival : (at : ℕ) (old new : List ℕ) (t : Taken) (r : PairValue) (v : Verdict Pair) → judge (problemIn a) (pairAt k) ≡ v → JudgedAs a l k at old new v t → t .judgment ≡ Rivalled r → (q : Pair) × ((verdict (problemIn a) ≡ rivalled (pairAt k) q) × (r ≡ named q))
+    pub pass-rival : (at : ℕ) (old new : List ℕ) (t : Taken) (r : PairValue) (v : Verdict Pair) → judge (problemIn a) (pairAt k) ≡ v → JudgedAs a l k at old new v t
+        → t .judgment ≡ Rivalled r → (q : Pair) × ((verdict (problemIn a) ≡ rivalled (pairAt k) q) × (r ≡ named q))
     pass-rival at old new t r convertible j f e = clash (cc (sym (f .0) ∙ e))
     pass-rival at old new t r (noWord x) j f e = clash (cc (sym f ∙ e))
     pass-rival at old new t r (rivalled x q) j f e = (q, (stops (rivalled x q) (λ z. clash (cc z)) j ∙ ap (λ (y : Pair). rivalled y q) (own-rival (problemIn a) (pairAt k) j), cc (sym e ∙ f)))
@@ -229,6 +232,7 @@ pass-size a l row size k P =
     omega (arith, P .sized, terms-grow (problemIn a) l (pairsFrom (a .parties) k), ap (λ (r : RuleList Word). length (termsOf r)) (P .mined), list-length (mine (problemIn a)))
 
 -- past the last pair
-pub pass-end : (a : Archive) (l : RuleList Word) (row : Row) (size k : ℕ) → 32 * a .parties ≤ k → Passing a l row size k → (l ≡ mine (problemIn a)) × (verdict (problemIn a) ≡ convertible)
+pub pass-end : (a : Archive) (l : RuleList Word) (row : Row) (size k : ℕ) → 32 * a .parties ≤ k → Passing a l row size k
+    → (l ≡ mine (problemIn a)) × (verdict (problemIn a) ≡ convertible)
 unfolding mineFrom verdictFrom
 pass-end a l row size k past P = (rw (pairs-end (a .parties) k past) at (P .mined), sym (rw (pairs-end (a .parties) k past) at (P .judged)))

@@ -75,12 +75,14 @@ module _ (M : Matter) (a : Archive) (s : Shows M a) (v : verdict (problemIn a) �
         })
 
 -- past the last pair the number before the terms makes the list
-pub write-end : (a : Archive) (old out : List ℕ) (l : RuleList Word) (row : Row) (number end k : ℕ) → 32 * a .parties ≤ k → length (archiveBytes a) ≤ length old → Writing a old out l row number end k → put out 0 (u16Bytes number) ≡ archiveBytes a ++ drop (length (archiveBytes a)) old
+pub write-end : (a : Archive) (old out : List ℕ) (l : RuleList Word) (row : Row) (number end k : ℕ) → 32 * a .parties ≤ k → length (archiveBytes a) ≤ length old
+    → Writing a old out l row number end k → put out 0 (u16Bytes number) ≡ archiveBytes a ++ drop (length (archiveBytes a)) old
 unfolding archiveBytes
 write-end a old out l row number end k past room W =
     let e : l ≡ mine (problemIn a) = pass-end a l row end k past (W .pass) .0 in
     let c = u16-size number in
-    let q : archiveBytes a ≡ u16Bytes number ++ termsOf l = ap (λ (r : RuleList Word). encodeList (plainList r)) (sym e) ∙ list-bytes l ∙ ap (λ (n : ℕ). u16Bytes n ++ termsOf l) (sym (W .terms)) in
+    let q : archiveBytes a ≡ u16Bytes number ++ termsOf l = ap (λ (r : RuleList Word). encodeList (plainList r)) (sym e) ∙ list-bytes l
+    ∙ ap (λ (n : ℕ). u16Bytes n ++ termsOf l) (sym (W .terms)) in
     let n : 0 + length (u16Bytes number) ≡ 2 = omega (arith, c) in
     ap (λ (o : List ℕ). put o 0 (u16Bytes number)) (W .bytes ∙ ap (λ (i : ℕ). put old i (termsOf l)) (sym n))
     ∙ put-before old 0 (u16Bytes number) (termsOf l) (omega (arith, c, ap length q, length-append (u16Bytes number) (termsOf l), room))

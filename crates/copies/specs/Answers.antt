@@ -1,4 +1,4 @@
--- What each call gives for a file: its reply, and every byte of the buffers lent to it; and two files for which every call gives the same.
+-- What each call of 01 and of Ticket 1 of 02 gives for a file: its reply, and every byte of the buffers lent to it; and two files for which every call gives the same.
 use Prim.Native.Nat.{ℕ}
 use mathlib.Core.Path.{_≡_}
 use mathlib.Core.List.{List}

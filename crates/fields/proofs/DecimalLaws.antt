@@ -45,6 +45,8 @@ decimal-length (suc k) n h =
 pub decimal-one : (b : List ℕ) (at n : ℕ) → n < 10 → at < length b → Wrote b at (decimalText n) (set b at (48 + n)) (at + 1)
 decimal-one b at n h l = rw (decimal-small n h) (record { bytes = put-one b at (48 + n) l; place = refl })
 
-pub decimal-next : (b : List ℕ) (at n : ℕ) (out : List ℕ) (end : ℕ) → 10 ≤ n → Wrote b at (decimalText (n / 10)) out end → end < length b → Wrote b at (decimalText n) (set out end (48 + n % 10)) (end + 1)
+pub decimal-next : (b : List ℕ) (at n : ℕ) (out : List ℕ) (end : ℕ) → 10 ≤ n → Wrote b at (decimalText (n / 10)) out end → end < length b
+    → Wrote b at (decimalText n) (set out end (48 + n % 10)) (end + 1)
 decimal-next b at n out end h w l =
-    rw (decimal-more n h) (record { bytes = then-one b at (decimalText (n / 10)) out end (w .bytes) (w .place) (48 + n % 10) l; place = omega (arith, length-append (decimalText (n / 10)) ((48 + n % 10) ∷ [])) })
+    rw (decimal-more n h)
+    (record { bytes = then-one b at (decimalText (n / 10)) out end (w .bytes) (w .place) (48 + n % 10) l; place = omega (arith, length-append (decimalText (n / 10)) ((48 + n % 10) ∷ [])) })

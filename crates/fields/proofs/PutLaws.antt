@@ -86,8 +86,10 @@ unfolding put
 put-before b at x y h =
     let m : length (take (at + length x) b) ≡ at + length x = length-take-le (at + length x) b (omega arith) in
     let n : at + length x + length y ≡ at + length (x ++ y) = omega (arith, length-append x y) in
-    let t : take at (put b (at + length x) y) ≡ take at b = take-append-le at (take (at + length x) b) (y ++ drop (at + length x + length y) b) (omega arith) ∙ take-take at (at + length x) b (omega arith) in
-    let d : drop (at + length x) (put b (at + length x) y) ≡ y ++ drop (at + length (x ++ y)) b = drop-at (take (at + length x) b) (y ++ drop (at + length x + length y) b) (at + length x) m ∙ ap (λ (k : ℕ). y ++ drop k b) n in
+    let t : take at (put b (at + length x) y) ≡ take at b = take-append-le at (take (at + length x) b) (y ++ drop (at + length x + length y) b) (omega arith)
+    ∙ take-take at (at + length x) b (omega arith) in
+    let d : drop (at + length x) (put b (at + length x) y) ≡ y ++ drop (at + length (x ++ y)) b = drop-at (take (at + length x) b) (y ++ drop (at + length x + length y) b) (at + length x) m
+    ∙ ap (λ (k : ℕ). y ++ drop k b) n in
     rw (t, d) (ap (λ (l : List ℕ). take at b ++ l) (sym (append-assoc x y (drop (at + length (x ++ y)) b))))
 
 -- a piece written over a shorter one leaves nothing of it
@@ -95,10 +97,12 @@ pub put-over : (b : List ℕ) (at : ℕ) (x y : List ℕ) → at ≤ length b �
 unfolding put
 put-over b at x y h k =
     let t : take at (put b at x) ≡ take at b = take-append-le at (take at b) (x ++ drop (at + length x) b) (omega (arith, length-take-le at b h)) ∙ take-take at at b (omega arith) in
-    let d : drop (at + length x) (put b at x) ≡ drop (at + length x) b = ap (drop (at + length x)) (put-split b at x) ∙ drop-at (take at b ++ x) (drop (at + length x) b) (at + length x) (front-length b at x h) in
+    let d : drop (at + length x) (put b at x) ≡ drop (at + length x) b = ap (drop (at + length x)) (put-split b at x)
+    ∙ drop-at (take at b ++ x) (drop (at + length x) b) (at + length x) (front-length b at x h) in
     let n : at + length x + (length y - length x) ≡ at + length y = omega arith in
     let r : drop (at + length y) (put b at x) ≡ drop (at + length y) b =
-    ap (λ (m : ℕ). drop m (put b at x)) (sym n) ∙ sym (drop-drop (length y - length x) (at + length x) (put b at x)) ∙ ap (drop (length y - length x)) d ∙ drop-drop (length y - length x) (at + length x) b ∙ ap (λ (m : ℕ). drop m b) n in
+    ap (λ (m : ℕ). drop m (put b at x)) (sym n) ∙ sym (drop-drop (length y - length x) (at + length x) (put b at x)) ∙ ap (drop (length y - length x)) d
+    ∙ drop-drop (length y - length x) (at + length x) b ∙ ap (λ (m : ℕ). drop m b) n in
     rw (t, r)
 
 -- what follows a count is kept where the count is written anew

@@ -34,7 +34,8 @@ any-last : {A : Type 0} (p : A → Bool) (l : List A) (x : A) → anyOf p (l ++ 
 any-last p l x e = or-right (anyOf p l) (p x) (sym (any-more p l x) ∙ e)
 
 -- the same target and kind
-pub says-same : (f : List ℕ) (r s : ℕ) → recordOf f r .target ≡ recordOf f s .target → recordOf f r .kind ≡ recordOf f s .kind → says f (recordOf f s .target) (recordOf f s .kind) r ≡ true
+pub says-same : (f : List ℕ) (r s : ℕ) → recordOf f r .target ≡ recordOf f s .target → recordOf f r .kind ≡ recordOf f s .kind
+    → says f (recordOf f s .target) (recordOf f s .kind) r ≡ true
 unfolding says
 says-same f r s t k = rw (eq-eqb _ _ t, eq-eqb _ _ k)
 
@@ -183,7 +184,8 @@ chain-stop f k r l = by-test (eqb r 0) (λ q. rw q) (λ q. rw (q, lt-ltb (record
 passed-end : (f : List ℕ) (u k : ℕ) (before earlier : List ℕ) (r : ℕ) → r ≡ 0 → walkChain f u (suc k) before earlier r ≡ passed (earlier ++ chainFrom f k r)
 passed-end f u k before earlier r z = rw (chain-end f k r z) (walk-end f u k before earlier r z ∙ ap passed (sym (append-nil earlier)))
 
-pub passed-walk : (f : List ℕ) (u k : ℕ) (before earlier : List ℕ) (r : ℕ) → Right f u before earlier r (chainFrom f k r) → walkChain f u (suc k) before earlier r ≡ passed (earlier ++ chainFrom f k r)
+pub passed-walk : (f : List ℕ) (u k : ℕ) (before earlier : List ℕ) (r : ℕ) → Right f u before earlier r (chainFrom f k r)
+    → walkChain f u (suc k) before earlier r ≡ passed (earlier ++ chainFrom f k r)
 unfolding chainFrom
 passed-walk f u zero before earlier r h = passed-end f u zero before earlier r (h .linked)
 passed-walk f u (suc k) before earlier r h =

@@ -56,13 +56,16 @@ module _ {A : Type 0} where
       omega (arith, ap length (r .split), length-append (r .pre) (x ∷ r .post), length-append (r .pre) (r .post))
 
   -- two lists without repetition with the same members are equally long
-  pub distinct-equal : (l m : List A) → Distinct l → Distinct m → ((x : A) → List·Memᴰ x l → List·Memᴰ x m) → ((x : A) → List·Memᴰ x m → List·Memᴰ x l) → length l ≡ length m
+  pub distinct-equal : (l m : List A) → Distinct l → Distinct m → ((x : A) → List·Memᴰ x l → List·Memᴰ x m) → ((x : A) → List·Memᴰ x m → List·Memᴰ x l)
+      → length l ≡ length m
   distinct-equal l m d e f g = omega (arith, distinct-most l m d f, distinct-most m l e g)
 
   pub distinct-append : (l m : List A) → Distinct l → Distinct m → ((x : A) → List·Memᴰ x l → List·Memᴰ x m → ⊥) → Distinct (l ++ m)
   distinct-append [] m d e f = e
-  distinct-append (x ∷ l) m d e f =
-      (λ n. ⊎-elim (λ (k : List·Memᴰ x l). d .0 k) (λ (k : List·Memᴰ x m). f x (List·Memᴰ·head refl) k) (List·Memᴰ·append-cases l n), distinct-append l m (d .1) e (λ y a b. f y (List·Memᴰ·tail a) b))
+  distinct-append (x ∷ l) m d e f = (
+    λ n. ⊎-elim (λ (k : List·Memᴰ x l). d .0 k) (λ (k : List·Memᴰ x m). f x (List·Memᴰ·head refl) k) (List·Memᴰ·append-cases l n),
+    distinct-append l m (d .1) e (λ y a b. f y (List·Memᴰ·tail a) b),
+  )
 
 module _ {A B : Type 0} where
   -- different elements have different images
@@ -79,5 +82,6 @@ module _ {A B : Type 0} where
   unfolding flatMap
   distinct-flat f [] d p i = tt
   distinct-flat f (x ∷ l) d p i =
-      distinct-append (f x) (flatMap f l) (p x (List·Memᴰ·head refl)) (distinct-flat f l (d .1) (λ y m. p y (List·Memᴰ·tail m)) (λ y z w m n. i y z w (List·Memᴰ·tail m) (List·Memᴰ·tail n)))
+      distinct-append (f x) (flatMap f l) (p x (List·Memᴰ·head refl))
+      (distinct-flat f l (d .1) (λ y m. p y (List·Memᴰ·tail m)) (λ y z w m n. i y z w (List·Memᴰ·tail m) (List·Memᴰ·tail n)))
       (λ z a b. let r = flat-out f l b in d .0 (rw (i x (r .0) z (List·Memᴰ·head refl) (List·Memᴰ·tail (r .1)) a (r .2)) (r .1)))

@@ -42,7 +42,8 @@ module _ {A : Type 0} where
       (λ q. rw (q, filterBy) (ascending-filter R p l (h .1)))
 
   -- two lists in order with the same members are the same
-  pub ascending-equal : (R : A → A → Bool) → ((x y : A) → R x y ≡ true → R y x ≡ true → ⊥) → (l m : List A) → Ascending R l → Ascending R m → ((x : A) → List·Memᴰ x l → List·Memᴰ x m) → ((x : A) → List·Memᴰ x m → List·Memᴰ x l) → l ≡ m
+  pub ascending-equal : (R : A → A → Bool) → ((x y : A) → R x y ≡ true → R y x ≡ true → ⊥) → (l m : List A) → Ascending R l → Ascending R m
+      → ((x : A) → List·Memᴰ x l → List·Memᴰ x m) → ((x : A) → List·Memᴰ x m → List·Memᴰ x l) → l ≡ m
   ascending-equal R i [] [] sl sm f g = refl
   ascending-equal R i [] (y ∷ m) sl sm f g = absurd (List·Memᴰ·not-nil (g y (List·Memᴰ·head refl)))
   ascending-equal R i (x ∷ l) [] sl sm f g = absurd (List·Memᴰ·not-nil (f x (List·Memᴰ·head refl)))
@@ -70,11 +71,14 @@ module _ {A : Type 0} where
       (λ k. by-mem k (λ e. inl (sym e)) (λ n. inr (ascending-after R (r .pre) (r .post) x y (rw (r .split) at s) n)))
       (List·Memᴰ·append-cases (r .pre) (rw (r .split) at m))
 
-  pub first-least : (R : A → A → Bool) (p : A → Bool) (l : List A) → Ascending R l → {c : A} → firstBy p l ≡ some c → {x : A} → List·Memᴰ x l → p x ≡ true → (c ≡ x) ⊎ (R c x ≡ true)
+  pub first-least : (R : A → A → Bool) (p : A → Bool) (l : List A) → Ascending R l → {c : A} → firstBy p l ≡ some c → {x : A} → List·Memᴰ x l → p x ≡ true
+      → (c ≡ x) ⊎ (R c x ≡ true)
   first-least R p l s e {x} m h = first-before R (find-some p l e) s x m h
 
   -- two lists in one order with the same members that pass have the same first that passes
-  pub first-agree : (R : A → A → Bool) → ((x : A) → R x x ≡ false) → ((x y z : A) → R x y ≡ true → R y z ≡ true → R x z ≡ true) → (p : A → Bool) (l m : List A) → Ascending R l → Ascending R m → ((x : A) → p x ≡ true → List·Memᴰ x l → List·Memᴰ x m) → ((x : A) → p x ≡ true → List·Memᴰ x m → List·Memᴰ x l) → firstBy p l ≡ firstBy p m
+  pub first-agree : (R : A → A → Bool) → ((x : A) → R x x ≡ false) → ((x y z : A) → R x y ≡ true → R y z ≡ true → R x z ≡ true) → (p : A → Bool) (l m : List A)
+      → Ascending R l → Ascending R m → ((x : A) → p x ≡ true → List·Memᴰ x l → List·Memᴰ x m) → ((x : A) → p x ≡ true → List·Memᴰ x m → List·Memᴰ x l)
+      → firstBy p l ≡ firstBy p m
   first-agree R i t p l m sl sm f g =
       by-found (firstBy p l)
       (λ e. e ∙ sym (find-none-of p m (λ x n. by-test (p x) (λ h. both h (find-none p l e (g x h n))) (λ h. h))))
@@ -83,7 +87,10 @@ module _ {A : Type 0} where
       (λ y k.
       let h = find-some p l e .here in
       let j = find-some p m k .here in
-      let z : x ≡ y = ⊎-elim (λ (q : x ≡ y). q) (λ (q : R x y ≡ true). ⊎-elim (λ (r : y ≡ x). sym r) (λ (r : R y x ≡ true). both (t x y x q r) (i x)) (first-least R p m sm k (f x h (find-in p l e)) h)) (first-least R p l sl e (g y j (find-in p m k)) j) in
+      let z : x ≡ y =
+      ⊎-elim (λ (q : x ≡ y). q)
+      (λ (q : R x y ≡ true). ⊎-elim (λ (r : y ≡ x). sym r) (λ (r : R y x ≡ true). both (t x y x q r) (i x)) (first-least R p m sm k (f x h (find-in p l e)) h))
+      (first-least R p l sl e (g y j (find-in p m k)) j) in
       e ∙ ap some z ∙ sym k))
 
   pub head-least : (R : A → A → Bool) (l : List A) → Ascending R l → {c : A} → headOf l ≡ some c → {x : A} → List·Memᴰ x l → (c ≡ x) ⊎ (R c x ≡ true)
@@ -121,7 +128,8 @@ module _ {A : Type 0} where
   sum-filter f p [] = refl
   sum-filter f p (x ∷ l) = by-test (p x) (λ q. rw (q, filterBy, sum-filter f p l)) (λ q. rw (q, filterBy) (omega (arith, sum-filter f p l)))
 
-pub ascending-map : {A B : Type 0} (R : A → A → Bool) (Q : B → B → Bool) (f : A → B) → ((x y : A) → R x y ≡ true → Q (f x) (f y) ≡ true) → (l : List A) → Ascending R l → Ascending Q (map f l)
+pub ascending-map : {A B : Type 0} (R : A → A → Bool) (Q : B → B → Bool) (f : A → B) → ((x y : A) → R x y ≡ true → Q (f x) (f y) ≡ true) → (l : List A)
+    → Ascending R l → Ascending Q (map f l)
 ascending-map R Q f h [] s = tt
 ascending-map R Q f h (x ∷ l) s = (λ y n. let r = map-out f l n in rw (r .2) (h x (r .0) (s .0 (r .0) (r .1))), ascending-map R Q f h l (s .1))
 

@@ -120,6 +120,7 @@ module _ {B : Type 0} (f : ℕ → List B) where
       (λ q. record { piece = n; small = omega arith; from = omega arith; below = h })
 
 -- pieces equally long, one by one
-pub flat-lengths : {B C : Type 0} (f : ℕ → List B) (g : ℕ → List C) (n : ℕ) → ((u : ℕ) → u < n → length (f u) ≡ length (g u)) → length (flatMap f (range n)) ≡ length (flatMap g (range n))
+pub flat-lengths : {B C : Type 0} (f : ℕ → List B) (g : ℕ → List C) (n : ℕ) → ((u : ℕ) → u < n → length (f u) ≡ length (g u))
+    → length (flatMap f (range n)) ≡ length (flatMap g (range n))
 flat-lengths f g zero h = flat-none f ∙ sym (flat-none g)
 flat-lengths f g (suc n) h = omega (arith, flat-step f n, flat-step g n, flat-lengths f g n (λ u l. h u (omega arith)), h n (omega arith))

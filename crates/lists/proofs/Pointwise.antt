@@ -75,7 +75,8 @@ filter-fewer p q (x ∷ l) f =
     (λ t. rw (t, f x (List·Memᴰ·head refl) t, filterBy) (omega arith))
     (λ t. by-test (q x) (λ k. rw (t, k, filterBy) (omega arith)) (λ k. rw (t, k, filterBy) ih))
 
-pub filter-strictly : {A : Type 0} (p q : A → Bool) (l : List A) → ((x : A) → List·Memᴰ x l → p x ≡ true → q x ≡ true) → {z : A} → List·Memᴰ z l → p z ≡ false → q z ≡ true → length (filterBy p l) < length (filterBy q l)
+pub filter-strictly : {A : Type 0} (p q : A → Bool) (l : List A) → ((x : A) → List·Memᴰ x l → p x ≡ true → q x ≡ true) → {z : A} → List·Memᴰ z l
+    → p z ≡ false → q z ≡ true → length (filterBy p l) < length (filterBy q l)
 unfolding filterBy
 filter-strictly {A} p q [] f m a b = absurd (List·Memᴰ·not-nil m)
 filter-strictly {A} p q (x ∷ l) f {z} m a b =

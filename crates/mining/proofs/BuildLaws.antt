@@ -92,7 +92,15 @@ pub size-more : (t : Term Word) (i : Item Word) → length (encodedTerm (t ++ (i
 unfolding encodeTerm
 size-more t i =
     rw (plain-more t i, words-more (plainTerm t) (i .word))
-    (omega (arith, length-append (u16Bytes (length (plainTerm t ++ (i .word ∷ [])))) (flatMap encodeWord (plainTerm t) ++ encodeWord (i .word)), length-append (flatMap encodeWord (plainTerm t)) (encodeWord (i .word)), length-append (u16Bytes (length (plainTerm t))) (flatMap encodeWord (plainTerm t)), u16-size (length (plainTerm t ++ (i .word ∷ []))), u16-size (length (plainTerm t)), word-size (i .word)))
+    (omega (
+      arith,
+      length-append (u16Bytes (length (plainTerm t ++ (i .word ∷ [])))) (flatMap encodeWord (plainTerm t) ++ encodeWord (i .word)),
+      length-append (flatMap encodeWord (plainTerm t)) (encodeWord (i .word)),
+      length-append (u16Bytes (length (plainTerm t))) (flatMap encodeWord (plainTerm t)),
+      u16-size (length (plainTerm t ++ (i .word ∷ []))),
+      u16-size (length (plainTerm t)),
+      word-size (i .word),
+    ))
 
 pub size-least : (t : Term Word) → 2 ≤ length (encodedTerm t)
 unfolding encodeTerm
@@ -120,7 +128,8 @@ pub record Building (a : Archive) (p : Pair) (at : ℕ) (b : List ℕ) (k number
   pub ends : end ≡ at + length (encodedTerm term)
 
 module _ (a : Archive) (p : Pair) (at : ℕ) (b : List ℕ) where
-  pub build-start : a .parties ≤ 32 → (length (wordsOf (problemIn a) p) ≡ 0 → ⊥) → (from : ℕ) → from ≡ at + length (firstBytes a p) → put b at (firstBytes a p) ≡ b → Building a p at b 0 1 from b
+  pub build-start : a .parties ≤ 32 → (length (wordsOf (problemIn a) p) ≡ 0 → ⊥) → (from : ℕ) → from ≡ at + length (firstBytes a p) → put b at (firstBytes a p) ≡ b
+      → Building a p at b 0 1 from b
   unfolding firstBytes termOf
   build-start few full from e o =
       let n : pairsFrom (a .parties) 0 ≡ problemIn a .pairs = pairs-numbered (a .parties) few ∙ sym (problem-pairs a) in
@@ -167,7 +176,8 @@ module _ (a : Archive) (p : Pair) (at : ℕ) (b : List ℕ) where
 
       module _ (f : (not (problemIn a .permitted (pairAt k)) && meets (problemIn a) (pairAt k) (B .term)) ≡ true) where
         -- it lacks no word of p: the first rival
-        pub build-rival : (length (wordsOf (problemIn a) p) ≡ 0 → ⊥) → firstBy (lacks (problemIn a) p (pairAt k)) (wordsOf (problemIn a) p) ≡ none → judge (problemIn a) p ≡ rivalled p (pairAt k)
+        pub build-rival : (length (wordsOf (problemIn a) p) ≡ 0 → ⊥) → firstBy (lacks (problemIn a) p (pairAt k)) (wordsOf (problemIn a) p) ≡ none
+            → judge (problemIn a) p ≡ rivalled p (pairAt k)
         unfolding judgeFrom
         build-rival full g =
             sym (judge-from (problemIn a) p)
@@ -240,17 +250,20 @@ module _ (a : Archive) (p : Pair) (at : ℕ) (b : List ℕ) where
       extend-unmet f = build-unmet k number end out h B its-pair (its-test ∙ f)
 
       module _ (f : allOf (has (tableGraph (a .parties) (a .graph)) (pairAt k)) (plainTerm (B .term)) ≡ true) where
-        pub extend-rival : (length (wordsOf (problemIn a) p) ≡ 0 → ⊥) → firstBy (lacks (problemIn a) p (pairAt k)) (wordsOf (problemIn a) p) ≡ none → BuiltAs a p at b out (judge (problemIn a) p) (Rival (named (pairAt k)))
+        pub extend-rival : (length (wordsOf (problemIn a) p) ≡ 0 → ⊥) → firstBy (lacks (problemIn a) p (pairAt k)) (wordsOf (problemIn a) p) ≡ none
+            → BuiltAs a p at b out (judge (problemIn a) p) (Rival (named (pairAt k)))
         extend-rival full g = rw (build-rival k number end out h B its-pair (its-test ∙ f) full g) refl
 
-        pub extend-more : (w : Word) → firstBy (lacks (problemIn a) p (pairAt k)) (wordsOf (problemIn a) p) ≡ some w → Building a p at b (k + 1) (number + 1) (end + 1 + length w) (put b at (encodeTerm (plainTerm (B .term) ++ (w ∷ []))))
+        pub extend-more : (w : Word) → firstBy (lacks (problemIn a) p (pairAt k)) (wordsOf (problemIn a) p) ≡ some w
+            → Building a p at b (k + 1) (number + 1) (end + 1 + length w) (put b at (encodeTerm (plainTerm (B .term) ++ (w ∷ []))))
         extend-more w g = build-more k number end out h B its-pair (its-test ∙ f) w g
 
         pub extend-room : (w : Word) → firstBy (lacks (problemIn a) p (pairAt k)) (wordsOf (problemIn a) p) ≡ some w → end + 1 + length w ≤ at + length (termBytes a p)
         extend-room w g = room-more k number end out h B its-pair (its-test ∙ f) w g
 
   -- past the last pair the term is whole
-  pub build-end : (k number end : ℕ) (out : List ℕ) → 32 * a .parties ≤ k → (length (wordsOf (problemIn a) p) ≡ 0 → ⊥) → Building a p at b k number end out → BuiltAs a p at b out (judge (problemIn a) p) (TermTo end)
+  pub build-end : (k number end : ℕ) (out : List ℕ) → 32 * a .parties ≤ k → (length (wordsOf (problemIn a) p) ≡ 0 → ⊥) → Building a p at b k number end out
+      → BuiltAs a p at b out (judge (problemIn a) p) (TermTo end)
   unfolding judgeFrom termBytes
   build-end k number end out past full B =
       let r : rivalFrom (problemIn a) p (B .term) [] ≡ rivalFrom (problemIn a) p (begin (problemIn a) p (wordsOf (problemIn a) p)) (problemIn a .pairs) = rw (pairs-end (a .parties) k past) at (B .rivals) in

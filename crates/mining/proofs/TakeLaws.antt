@@ -39,7 +39,8 @@ module _ (n : ℕ) (permits marks : Row) (k : ℕ) where
   unfolding dueBy
   due-unpermitted e p = rw (e, p) refl
 
-  pub due-by-mark : isPairAt n k ≡ true → testBit (maskIn permits (k / 32)) (k % 32) ≡ true → (r : Bool) → r ≡ testBit (maskIn marks (k / 32)) (k % 32) → not r ≡ dueBy n permits marks k
+  pub due-by-mark : isPairAt n k ≡ true → testBit (maskIn permits (k / 32)) (k % 32) ≡ true → (r : Bool) → r ≡ testBit (maskIn marks (k / 32)) (k % 32)
+      → not r ≡ dueBy n permits marks k
   unfolding dueBy
   due-by-mark e p r h = rw (e, p) (ap not h)
 
@@ -65,7 +66,8 @@ module _ (a : Archive) (p : Pair) (at : ℕ) (old new : List ℕ) where
   term-built (noWord x) end h = clash (cc h)
   term-built (rivalled x q) end h = clash (cc h)
 
-  pub term-stands : (M : Matter) → Shows M a → at ≤ length old → new ≡ put old at (termBytes a p) → TermAt new at (plainTerm (termOf (problemIn a) p)) (drop (at + length (termBytes a p)) old)
+  pub term-stands : (M : Matter) → Shows M a → at ≤ length old → new ≡ put old at (termBytes a p)
+      → TermAt new at (plainTerm (termOf (problemIn a) p)) (drop (at + length (termBytes a p)) old)
   unfolding termBytes
   term-stands M s h e = record {
     bytes = ap (drop at) e ∙ put-drop old at (encodedTerm (termOf (problemIn a) p)) h;
@@ -83,7 +85,8 @@ module _ (a : Archive) (l : RuleList Word) (k at : ℕ) (old new : List ℕ) (t 
   judged-rival (noWord x) r h j = clash (cc h)
   judged-rival (rivalled x q) r h j = let e : r ≡ named q = cc h in j ∙ ap Rivalled e
 
-  pub judged-term : (v : Verdict Pair) (end : ℕ) → BuiltAs a (pairAt k) at old new v (TermTo end) → t .judgment ≡ Fit → t .end ≡ end → Marks a (l ++ (termOf (problemIn a) (pairAt k) ∷ [])) (t .marks) → JudgedAs a l k at old new v t
+  pub judged-term : (v : Verdict Pair) (end : ℕ) → BuiltAs a (pairAt k) at old new v (TermTo end) → t .judgment ≡ Fit → t .end ≡ end
+      → Marks a (l ++ (termOf (problemIn a) (pairAt k) ∷ [])) (t .marks) → JudgedAs a l k at old new v t
   judged-term convertible end h j e m = let z : end ≡ at + length (termBytes a (pairAt k)) = cc (h .0) in (j, (e ∙ z, (h .1, m)))
   judged-term (noWord x) end h j e m = clash (cc h)
   judged-term (rivalled x q) end h j e m = clash (cc h)

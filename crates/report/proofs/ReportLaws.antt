@@ -147,7 +147,8 @@ abbrev pub MinedAs : List ℕ → ℕ → List ℕ → MiningReply → Type 0
 MinedAs f k list (WroteList j) = (j ≤ 65536) × ((j ≤ length list) × (IsList (take j list) (listOf (matterOf f)) × (listPart (matterOf f) (Convertible k) ≡ listText (listOf (matterOf f)))))
 MinedAs f k list (RefusedMining x) = listPart (matterOf f) (Convertible k) ≡ refusedLine x
 
-pub mined-as : (f : List ℕ) (k : ℕ) → verdictCall f ≡ Convertible k → (scratch old : List ℕ) → length scratch ≡ 1024 → length old ≡ 65536 → MinedAs f k (outputOf (miningCall f (length scratch) (length old)) old) (minedReply (miningCall f (length scratch) (length old)))
+pub mined-as : (f : List ℕ) (k : ℕ) → verdictCall f ≡ Convertible k → (scratch old : List ℕ) → length scratch ≡ 1024 → length old ≡ 65536
+    → MinedAs f k (outputOf (miningCall f (length scratch) (length old)) old) (minedReply (miningCall f (length scratch) (length old)))
 mined-as f k v scratch old s o =
     let e = convertible-accepted f k v in
     by-test (leb k 65536)

@@ -44,7 +44,8 @@ module _ (labels language longest : ℕ) where
   unfolding legalWord
   symbols-bad w e = rw e (and-false (leb 1 (length w)) (and-false (leb (length w) longest) refl))
 
-  all-good : (k : ℕ) (r : List ℕ) → k ≤ length r → 1 ≤ k → k ≤ longest → allOf (legalSymbol labels language) (take k r) ≡ true → legalWord labels language longest (take k r) ≡ true
+  all-good : (k : ℕ) (r : List ℕ) → k ≤ length r → 1 ≤ k → k ≤ longest → allOf (legalSymbol labels language) (take k r) ≡ true
+      → legalWord labels language longest (take k r) ≡ true
   unfolding legalWord
   all-good k r h one l e = rw (length-take-le k r h, le-leb 1 k one, le-leb k longest l) e
 
@@ -75,7 +76,8 @@ module _ (labels language longest : ℕ) where
       pub word-wrong : allOf (legalSymbol labels language) (slice (at + 1) (at + 1 + k) b) ≡ false → decodeWord labels language longest (drop at b) ≡ none
       word-wrong e = word-bad (λ h. symbols-bad _ (rw (slice-take (at + 1) k b) at e))
 
-      pub word-good : k ≤ length b - (at + 1) → 1 ≤ k → k ≤ longest → allOf (legalSymbol labels language) (slice (at + 1) (at + 1 + k) b) ≡ true → decodeWord labels language longest (drop at b) ≡ parsed (take k (drop (at + 1) b)) (drop (at + 1 + k) b)
+      pub word-good : k ≤ length b - (at + 1) → 1 ≤ k → k ≤ longest → allOf (legalSymbol labels language) (slice (at + 1) (at + 1 + k) b) ≡ true
+          → decodeWord labels language longest (drop at b) ≡ parsed (take k (drop (at + 1) b)) (drop (at + 1 + k) b)
       word-good h one l e =
           let m : k ≤ length (drop (at + 1) b) = omega (arith, length-drop (at + 1) b) in
           word-here ∙ rw (le-leb k (length (drop (at + 1) b)) m, all-good k (drop (at + 1) b) m one l (rw (slice-take (at + 1) k b) at e), drop-on b (at + 1) k)
@@ -175,7 +177,8 @@ module _ (labels language longest : ℕ) (b : List ℕ) where
     pub list-broken : decodeMany (decodeTerm labels language longest) k (drop 2 b) ≡ none → isSome (decodeList labels language longest b) ≡ false
     list-broken e = rw (list-here, e)
 
-    pub list-read : (v : List (List (List ℕ))) (end : ℕ) → end ≤ length b → decodeMany (decodeTerm labels language longest) k (drop 2 b) ≡ parsed v (drop end b) → isSome (decodeList labels language longest b) ≡ eqb end (length b)
+    pub list-read : (v : List (List (List ℕ))) (end : ℕ) → end ≤ length b → decodeMany (decodeTerm labels language longest) k (drop 2 b) ≡ parsed v (drop end b)
+        → isSome (decodeList labels language longest b) ≡ eqb end (length b)
     list-read v end h e = rw (list-here, e) (by-test (eqb end (length b))
         (λ q. let z : end ≡ length b = eqb-true _ _ q in rw (q, drop-of-length-le b {i = end} (omega arith)))
         (λ q. let z : end ≡ length b → ⊥ = eqb-false _ _ q in rw (q, drop-cons b end 0 (omega (arith, z)))))

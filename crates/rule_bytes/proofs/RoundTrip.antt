@@ -43,7 +43,8 @@ module _ (labels language longest : ℕ) where
   unfolding encodeWord decodeWord
   word-encode w h s = rw (take-append-seam w s, drop-append-seam w s, le-leb (length w) (length (w ++ s)) (omega (arith, length-append w s)), h)
 
-  pub word-decode : (s : List ℕ) (r : Parsed (List ℕ)) → Bytes s → decodeWord labels language longest s ≡ some r → Back encodeWord (λ w. legalWord labels language longest w ≡ true) s (r .value) (r .rest)
+  pub word-decode : (s : List ℕ) (r : Parsed (List ℕ)) → Bytes s → decodeWord labels language longest s ≡ some r
+      → Back encodeWord (λ w. legalWord labels language longest w ≡ true) s (r .value) (r .rest)
   unfolding encodeWord decodeWord
   word-decode [] r h e = not-some e
   word-decode (k ∷ s) r h e =
@@ -60,13 +61,15 @@ module _ (labels language longest : ℕ) where
       rw (append-assoc (u16Bytes (length t)) (flatMap encodeWord t) s, count-encode (length t) (flatMap encodeWord t ++ s), le-leb 1 (length t) (h .full))
       (many-encode (decodeWord labels language longest) encodeWord t s (λ w m. word-encode w (h .words w m)))
 
-  pub term-decode : (s : List ℕ) (r : Parsed (List (List ℕ))) → Bytes s → decodeTerm labels language longest s ≡ some r → Back encodeTerm (LegalTerm labels language longest) s (r .value) (r .rest)
+  pub term-decode : (s : List ℕ) (r : Parsed (List (List ℕ))) → Bytes s → decodeTerm labels language longest s ≡ some r
+      → Back encodeTerm (LegalTerm labels language longest) s (r .value) (r .rest)
   unfolding encodeTerm decodeTerm
   term-decode s r h e =
       let u = then-some (decodeCount s) _ e in
       let n = count-decode s (u .0) h (u .1) in
       let g = given-some (leb 1 (u .0 .value)) _ (u .2) in
-      let b = many-decode (decodeWord labels language longest) encodeWord (λ w. legalWord labels language longest w ≡ true) word-decode (u .0 .value) (u .0 .rest) r (bytes-after (u16Bytes (u .0 .value)) (u .0 .rest) (rw (n .bytes) at h)) (g .1) in
+      let b = many-decode (decodeWord labels language longest) encodeWord (λ w. legalWord labels language longest w ≡ true) word-decode (u .0 .value)
+      (u .0 .rest) r (bytes-after (u16Bytes (u .0 .value)) (u .0 .rest) (rw (n .bytes) at h)) (g .1) in
       record {
         bytes = n .bytes ∙ rw (b .bytes, b .number) (sym (append-assoc (u16Bytes (u .0 .value)) (flatMap encodeWord (r .value)) (r .rest)));
         holds = record { full = omega (arith, b .number, leb-true 1 (u .0 .value) (g .0)); fits = omega (arith, b .number, n .holds); words = b .holds };
@@ -79,12 +82,14 @@ module _ (labels language longest : ℕ) where
       rw (append-assoc (u16Bytes (length l)) (flatMap encodeTerm l) s, count-encode (length l) (flatMap encodeTerm l ++ s))
       (many-encode (decodeTerm labels language longest) encodeTerm l s (λ t m. term-encode t (h .terms t m)))
 
-  pub terms-decode : (s : List ℕ) (r : Parsed (List (List (List ℕ)))) → Bytes s → decodeTerms labels language longest s ≡ some r → Back encodeList (LegalList labels language longest) s (r .value) (r .rest)
+  pub terms-decode : (s : List ℕ) (r : Parsed (List (List (List ℕ)))) → Bytes s → decodeTerms labels language longest s ≡ some r
+      → Back encodeList (LegalList labels language longest) s (r .value) (r .rest)
   unfolding encodeList decodeTerms
   terms-decode s r h e =
       let u = then-some (decodeCount s) _ e in
       let n = count-decode s (u .0) h (u .1) in
-      let b = many-decode (decodeTerm labels language longest) encodeTerm (LegalTerm labels language longest) term-decode (u .0 .value) (u .0 .rest) r (bytes-after (u16Bytes (u .0 .value)) (u .0 .rest) (rw (n .bytes) at h)) (u .2) in
+      let b = many-decode (decodeTerm labels language longest) encodeTerm (LegalTerm labels language longest) term-decode (u .0 .value) (u .0 .rest) r
+      (bytes-after (u16Bytes (u .0 .value)) (u .0 .rest) (rw (n .bytes) at h)) (u .2) in
       record {
         bytes = n .bytes ∙ rw (b .bytes, b .number) (sym (append-assoc (u16Bytes (u .0 .value)) (flatMap encodeTerm (r .value)) (r .rest)));
         holds = record { fits = omega (arith, b .number, n .holds); terms = b .holds };

@@ -32,7 +32,8 @@ module _ {A : Type 0} (T : List A → List ℕ) (l : List A) (b : List ℕ) (at 
   text-start = record { done = []; text = refl; written = sym (put-nil b at); place = omega arith }
 
   module _ (rest : List A) (out : List ℕ) (end : ℕ) (f : TextSoFar T l rest b out at end) where
-    pub text-next : (more : List A) (piece out' : List ℕ) (end' : ℕ) → at ≤ length b → T rest ≡ piece ++ T more → out' ≡ put out end piece → end' ≡ end + length piece → TextSoFar T l more b out' at end'
+    pub text-next : (more : List A) (piece out' : List ℕ) (end' : ℕ) → at ≤ length b → T rest ≡ piece ++ T more → out' ≡ put out end piece
+        → end' ≡ end + length piece → TextSoFar T l more b out' at end'
     text-next more piece out' end' h e o p = record {
       done = f .done ++ piece;
       text = f .text ∙ ap (λ (x : List ℕ). f .done ++ x) e ∙ sym (append-assoc (f .done) piece (T more));
@@ -92,7 +93,8 @@ term-length (w ∷ t) =
     omega (arith, ap length (joined-next wordText ampersand lineEnd w t), length-append (wordText w ++ after ampersand lineEnd t) (joined wordText ampersand lineEnd t), length-append (wordText w) (after ampersand lineEnd t), word-length w, term-length t, length-append w (flatMap encodeWord t))
 
 -- the next symbol of a word value
-pub word-step : (len : ℕ) (symbols : List ℕ) (i : ℕ) → len ≤ length symbols → i < len → joined symbolText dot [] (drop i (take len symbols)) ≡ (symbolText (getD symbols i 0) ++ pick (eqb (i + 1) len) [] dot) ++ joined symbolText dot [] (drop (i + 1) (take len symbols))
+pub word-step : (len : ℕ) (symbols : List ℕ) (i : ℕ) → len ≤ length symbols → i < len
+    → joined symbolText dot [] (drop i (take len symbols)) ≡ (symbolText (getD symbols i 0) ++ pick (eqb (i + 1) len) [] dot) ++ joined symbolText dot [] (drop (i + 1) (take len symbols))
 word-step len symbols i h k =
     let n : length (take len symbols) ≡ len = length-take-le len symbols h in
     let m : length (drop (i + 1) (take len symbols)) ≡ len - (i + 1) = length-drop (i + 1) (take len symbols) ∙ ap (λ (z : ℕ). z - (i + 1)) n in
@@ -119,7 +121,8 @@ module _ (b : List ℕ) (t : List (List ℕ)) (s o : List ℕ) (to : ℕ) where
       pub entry-room : end + 3 * length (word-entry h .first) + 3 ≤ length out
       entry-room = let n = word-entry h in omega (arith, f .room, word-room b place (n .first) (flatMap encodeWord (n .rest) ++ s) (n .bytes))
 
-      pub term-text-next : (out' : List ℕ) (end' : ℕ) → to ≤ length o → out' ≡ put out end (wordText (word-entry h .first) ++ pick (eqb left 1) lineEnd ampersand) → end' ≡ end + length (wordText (word-entry h .first) ++ pick (eqb left 1) lineEnd ampersand) → TermTextSoFar b (wordAt b place .next) (left - 1) t s o out' to end'
+      pub term-text-next : (out' : List ℕ) (end' : ℕ) → to ≤ length o → out' ≡ put out end (wordText (word-entry h .first) ++ pick (eqb left 1) lineEnd ampersand)
+          → end' ≡ end + length (wordText (word-entry h .first) ++ pick (eqb left 1) lineEnd ampersand) → TermTextSoFar b (wordAt b place .next) (left - 1) t s o out' to end'
       term-text-next out' end' r x y =
           let n = word-entry h in
           let c : length (n .rest) + 1 ≡ left = omega (arith, f .ahead .number, ap length (n .split)) in
@@ -161,14 +164,16 @@ module _ (b : List ℕ) (l : List (List (List ℕ))) (o : List ℕ) where
       pub term-here-at : TermAt b place (term-entry h .first) (flatMap encodeTerm (term-entry h .rest) ++ [])
       term-here-at = record { bytes = term-entry h .bytes; fits = term-entry h .fits }
 
-      pub list-text-next : (out' : List ℕ) (end' next : ℕ) → out' ≡ put out end (termText (term-entry h .first)) → end' ≡ end + length (termText (term-entry h .first)) → drop next b ≡ flatMap encodeTerm (term-entry h .rest) ++ [] → ListTextSoFar b next (left - 1) l o out' end'
+      pub list-text-next : (out' : List ℕ) (end' next : ℕ) → out' ≡ put out end (termText (term-entry h .first)) → end' ≡ end + length (termText (term-entry h .first))
+          → drop next b ≡ flatMap encodeTerm (term-entry h .rest) ++ [] → ListTextSoFar b next (left - 1) l o out' end'
       unfolding flatMap encodeTerm
       list-text-next out' end' next x y z =
           let n = term-entry h in
           let p = term-length (n .first) in
           let m : length b - place ≡ length (encodeTerm (n .first)) + length (flatMap encodeTerm (n .rest) ++ []) = sym (length-drop place b) ∙ ap length (n .bytes) ∙ length-append (encodeTerm (n .first)) (flatMap encodeTerm (n .rest) ++ []) in
           let q : length b - next ≡ length (flatMap encodeTerm (n .rest) ++ []) = sym (length-drop next b) ∙ ap length z in
-          let u : length (encodeTerm (n .first)) ≡ 2 + length (flatMap encodeWord (n .first)) = length-append (u16Bytes (length (n .first))) (flatMap encodeWord (n .first)) ∙ omega (arith, u16-size (length (n .first))) in
+          let u : length (encodeTerm (n .first)) ≡ 2 + length (flatMap encodeWord (n .first)) = length-append (u16Bytes (length (n .first))) (flatMap encodeWord (n .first))
+          ∙ omega (arith, u16-size (length (n .first))) in
           let d : end + length (termText (n .first)) ≤ length out = omega (arith, f .room) in
           let k : length out' ≡ length out = ap length x ∙ put-length out end (termText (n .first)) d in
           record {

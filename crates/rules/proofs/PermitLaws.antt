@@ -29,7 +29,8 @@ use Rattle.rule_bytes.proofs.PlaceLaws.{list-legal-fits}
 use Rattle.rebac.proofs.OptionLaws.{some-of, none-of}
 
 -- bytes that decode are those of a list that fits
-pub list-is : (labels language longest : ℕ) → labels ≤ 8 → longest ≤ 31 → (b : List ℕ) → Bytes b → (l : List (List (List ℕ))) → decodeList labels language longest b ≡ some l → IsList b l
+pub list-is : (labels language longest : ℕ) → labels ≤ 8 → longest ≤ 31 → (b : List ℕ) → Bytes b → (l : List (List (List ℕ)))
+    → decodeList labels language longest b ≡ some l → IsList b l
 list-is labels language longest few short b h l e =
     let k = encode-decode labels language longest b h l e in
     record { bytes = sym (k .bytes); fits = list-legal-fits labels language longest few short l (k .legal) }

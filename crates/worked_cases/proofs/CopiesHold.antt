@@ -22,7 +22,9 @@ unfolding allOf anyOf upFrom u16At recordOf fieldsInRange judgeRecord says recor
 accepted = refl
 
 written : map (λ c. writeCall (c .file) (length (c .copy))) copiedFiles ≡ map (λ c. writes (c .copy)) copiedFiles
-unfolding allOf anyOf upFrom u16At recordOf fieldsInRange judgeRecord says recordCheck walkChain walkChains chainsCheck checkOf filterBy flatMap range u16Bytes chainFrom chainOf recorded isEdge isPermitted matterOf kindBytes saysKind pairEntries entriesOf entriesBelow linked recordsFor headerBytes headsBy recordBytes canonicalOf writeIn writeCall
+unfolding allOf anyOf upFrom u16At recordOf fieldsInRange judgeRecord says recordCheck walkChain walkChains chainsCheck checkOf filterBy
+    flatMap range u16Bytes chainFrom chainOf recorded isEdge isPermitted matterOf kindBytes saysKind pairEntries entriesOf entriesBelow
+    linked recordsFor headerBytes headsBy recordBytes canonicalOf writeIn writeCall
 written = refl
 
 pub copies-hold : (c : CopiedFile) → List·Memᴰ c copiedFiles → CopyHolds c

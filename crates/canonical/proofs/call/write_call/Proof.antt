@@ -13,7 +13,8 @@ use Rattle.canonical.proofs.call.write_call.Tie as tie
 accepted : (c : tie.After-enum-told) → checkOf (c .before .before .before .before .before .args .file .now) ≡ Accepted
 accepted c = sym (c .before .before .read .ensures .reply) ∙ c .enum-told .given .1
 
-stands : (c : tie.After-enum-told) → Stands (matterOf (c .before .before .before .before .before .args .file .now)) (c .before .before .read .result .house .header) (c .before .before .read .result .house .kinds)
+stands : (c : tie.After-enum-told)
+    → Stands (matterOf (c .before .before .before .before .before .args .file .now)) (c .before .before .read .result .house .header) (c .before .before .read .result .house .kinds)
 stands c = decoded-stands _ (accepted c) _ (c .before .before .read .ensures .house (accepted c))
 
 read-requires : tie.Need-read-requires

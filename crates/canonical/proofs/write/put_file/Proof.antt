@@ -57,7 +57,8 @@ returns c =
     let heads = c .before .before .before .before .before .before .put-heads .ensures in
     let M = matterIn (s .args .h) (s .args .kinds) in
     let n = p .records in
-    let q : headerFor M ≡ s .args .h = λ j. record { parties = s .args .h .parties; labels = s .args .h .labels; language = s .args .h .language; longest = s .args .h .longest; records = sym n j } in
+    let q : headerFor M ≡ s .args .h =
+    λ j. record { parties = s .args .h .parties; labels = s .args .h .labels; language = s .args .h .language; longest = s .args .h .longest; records = sym n j } in
     file-put M (s .args .h) (s .args .f) (p .firsts) q (s .args .out .now) _ _ _ (omega arith) header heads (c .before .before .put-records .ensures)
 
 pub put-file-spec : {M : Type 1} → statement M

@@ -103,7 +103,15 @@ same-length c =
     let x = c .before .before .before .before .before .before .before .before .before in
     let o = c .before .before .before .before .before .loop in
     let W = o .inv .1 in
-    ap length (c .before .before .put-u16 .ensures) ∙ put-length (o .out) 0 (u16Bytes (o .number)) (omega (arith, u16-size (o .number), write-length (x .args .a) (x .args .out .now) (o .out) (x .pre .1 .1) (W .0) (o .marks) (o .number) (o .end) (o .k) (W .1), write-two (x .args .a) (x .args .out .now) (o .out) (x .pre .1 .1) (W .0) (o .marks) (o .number) (o .end) (o .k) (W .1))) ∙ write-length (x .args .a) (x .args .out .now) (o .out) (x .pre .1 .1) (W .0) (o .marks) (o .number) (o .end) (o .k) (W .1)
+    ap length (c .before .before .put-u16 .ensures)
+    ∙ put-length (o .out) 0 (u16Bytes (o .number))
+    (omega (
+      arith,
+      u16-size (o .number),
+      write-length (x .args .a) (x .args .out .now) (o .out) (x .pre .1 .1) (W .0) (o .marks) (o .number) (o .end) (o .k) (W .1),
+      write-two (x .args .a) (x .args .out .now) (o .out) (x .pre .1 .1) (W .0) (o .marks) (o .number) (o .end) (o .k) (W .1),
+    ))
+    ∙ write-length (x .args .a) (x .args .out .now) (o .out) (x .pre .1 .1) (W .0) (o .marks) (o .number) (o .end) (o .k) (W .1)
 
 returns : tie.Need-returns Inv-loop μ-loop
 returns c =

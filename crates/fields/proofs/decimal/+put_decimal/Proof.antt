@@ -98,7 +98,8 @@ put-decimal-add-result-2 : (t : ℕ) → put-decimal-lts.Need-add-result-2 (
 ) (put-decimal-at t) put-decimal.Post
 put-decimal-add-result-2 t c =
     let p = c .before .before .before .before .before .before in
-    let l : c .before .before .put-decimal .result + 1 ≤ length (p .args .out .now) = omega (arith, p .pre .1, decimal-room (p .args .n) (c .before .before .before .before .if1 .left), c .before .before .put-decimal .ensures .place) in
+    let l : c .before .before .put-decimal .result + 1 ≤ length (p .args .out .now) =
+    omega (arith, p .pre .1, decimal-room (p .args .n) (c .before .before .before .before .if1 .left), c .before .before .put-decimal .ensures .place) in
     search needs
 
 put-decimal-same-length-2 : (t : ℕ) → put-decimal-lts.Need-same-length-2 (
@@ -114,7 +115,8 @@ put-decimal-returns-2 : (t : ℕ) → put-decimal-lts.Need-returns-2 (
 put-decimal-returns-2 t c =
     let p = c .before .before .before .before .before .before in
     let h = c .before .before .before .before .if1 .left in
-    decimal-next (p .args .out .now) (p .args .at) (p .args .n) _ _ h (c .before .before .put-decimal .ensures) (omega (arith, p .pre .1, decimal-room (p .args .n) h, c .before .before .put-decimal .ensures .place))
+    decimal-next (p .args .out .now) (p .args .at) (p .args .n) _ _ h (c .before .before .put-decimal .ensures)
+    (omega (arith, p .pre .1, decimal-room (p .args .n) h, c .before .before .put-decimal .ensures .place))
 
 pub +put-decimal-spec : {M : Type 1} → statement M
 +put-decimal-spec = close μ-put-decimal λ t. put-decimal-lts.spec (

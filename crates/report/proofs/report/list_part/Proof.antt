@@ -20,7 +20,8 @@ abbrev zeros : ℕ → List ℕ
 zeros n = replicate n 0
 
 -- what mining left, by its reply
-mined : (c : tie.After-mining-call) → MinedAs (c .before .before .before .before .before .args .file .now) (c .before .before .before .before .before .pre .0 .0) (c .mining-call .last .1 .1 .0) (c .mining-call .result)
+mined : (c : tie.After-mining-call)
+    → MinedAs (c .before .before .before .before .before .args .file .now) (c .before .before .before .before .before .pre .0 .0) (c .mining-call .last .1 .1 .0) (c .mining-call .result)
 mined c =
     let f : List ℕ = c .before .before .before .before .before .args .file .now in
     let k : ℕ = c .before .before .before .before .before .pre .0 .0 in
