@@ -8,13 +8,12 @@ use lib.ListN.{length, getD}
 use borrow.Author.Tests.{le-leb, lt-leb}
 use Rattle.lists.specs.Lists.{filterBy, flatMap, range}
 use Rattle.lists.proofs.Pointwise.{filter-same, flat-same}
-use Rattle.fields.specs.Numbers.{u16Bytes}
 use Rattle.masks.specs.declared.Table.{Table}
 use Rattle.rebac.specs.Matter.{Matter}
 use Rattle.house_layout.specs.Fields.{legalKind}
 use Rattle.house_layout.specs.declared.header.Header.{Header}
 use Rattle.house_layout.specs.declared.reply.Refusal.the-variants.{Output}
-use Rattle.canonical.specs.Canonical.{Entry, entry, kindBytes, saysKind, pairEntries, entriesOf, entriesBelow, countOf, firstOf, link, recordsFor, headerBytes, headsBy, headerFor, canonicalOf}
+use Rattle.canonical.specs.Canonical.{Entry, entry, kindBytes, saysKind, pairEntries, entriesOf, entriesBelow, countOf, firstOf, recordsFor, headerBytes, headsBy, headerFor, canonicalOf}
 use Rattle.canonical.specs.Calls.{refuses, writes, writeIn}
 use Rattle.canonical.specs.Masks.{matterIn, FirstsOf, Stands}
 use Rattle.canonical.specs.declared.count.Firsts.{Firsts}

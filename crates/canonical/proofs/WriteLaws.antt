@@ -1,14 +1,13 @@
 -- The file's bytes piece by piece: records are four bytes each, so each piece begins where the one before it ends. Assumes nothing.
 use mathlib.Core.Path.{_≡_, refl, sym, ap, _∙_}
 use mathlib.Core.List.{List, [], _∷_, _++_, map, append-assoc}
-use Prim.Native.Nat.{ℕ, suc, _+_, _*_, _-_, _≤_, _<_}
+use Prim.Native.Nat.{ℕ, suc, _+_, _*_, _-_, _≤_}
 use native.Mathlib.Numerals.{add-one}
 use native.Mathlib.Omega.{arith}
 use lib.ListN.{length, set, length-append}
 use Rattle.lists.specs.Lists.{flatMap, upFrom, range}
-use Rattle.lists.proofs.ListLaws.{range-out}
 use Rattle.lists.proofs.OrderLaws.{length-map}
-use Rattle.lists.proofs.Pointwise.{map-append, flat-same}
+use Rattle.lists.proofs.Pointwise.{map-append}
 use Rattle.lists.proofs.Pieces.{flat-append, flat-one, flat-suc, pieces-length}
 use Rattle.fields.specs.Numbers.{u16Bytes}
 use Rattle.fields.specs.Writing.{put}

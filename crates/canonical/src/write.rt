@@ -1,11 +1,11 @@
 // The canonical file's parts, written to a lent output; every other byte is kept.
 ghost use mathlib.Core.Path.{_≡_};
-ghost use Prim.Native.Nat.{ℕ, _+_, _*_, _-_, _≤_, _<_};
+ghost use Prim.Native.Nat.{_+_, _*_, _-_, _≤_, _<_};
 ghost use lib.ListN.{length};
 ghost use Rattle.lists.specs.Lists.{flatMap, range};
 ghost use Rattle.fields.specs.Writing.{put};
 ghost use Rattle.rebac.specs.Matter.{Matter};
-ghost use Rattle.canonical.specs.Canonical.{entriesOf, countOf, link, recordsFor, headerBytes, headsBy, recordBytes, canonicalOf};
+ghost use Rattle.canonical.specs.Canonical.{entriesOf, link, recordsFor, headerBytes, headsBy, recordBytes, canonicalOf};
 ghost use Rattle.canonical.specs.Masks.{matterIn, Stands, kindsIn, chainBytes, pairBytes, numbersIn, RecordFits, PairFits, PartyFits, HeadsFit, FileFits};
 ghost use Rattle.canonical.specs.Calls.{replyOf, outputOf, writeIn};
 use crate::count::Firsts;
@@ -49,7 +49,8 @@ fn put_pair(
     end: usize,
 ) -> usize
     requires { ⌜ PairFits target labels mask base number end (length (now out)) ⌝ }
-    ensures { λ r. ⌜ (r ≡ number + length (kindsIn labels mask)) × (now (out .exit) ≡ put (now (out .entry)) (base + 4 * (number - 1)) (pairBytes end number target (kindsIn labels mask))) ⌝ }
+    ensures { λ r. ⌜ (r ≡ number + length (kindsIn labels mask))
+        × (now (out .exit) ≡ put (now (out .entry)) (base + 4 * (number - 1)) (pairBytes end number target (kindsIn labels mask))) ⌝ }
 {
     let mut next = number;
     let mut place = 0;

@@ -70,7 +70,11 @@ expected c =
     }
 
 computed : map reckoned rows ≡ map expected rows
-unfolding allOf anyOf filterBy firstBy flatMap upFrom range pairsOf permitted wordsOfLength wordsUpTo candidates routes pathsOf pathCount kinds kindHolds apart inLanguage holds alphabet meetsItem meets permits wordsOf covers rival judge spoils verdict lacks addAgainst addAll termOf mineFrom mine matterWords problemOf problemOver verdictOf minedList pairWords legalSymbol u16Bytes encodeWord encodeTerm encodeList decodeCount decodeMany legalWord decodeWord decodeTerm decodeTerms decodeList hexDigit symbolText joined wordText termText listText listOf bytesOf verdictIn digitsIn decimalText pairText verdictLine bytesIn listedEdge listedPair reckoned expected
+unfolding allOf anyOf filterBy firstBy flatMap upFrom range pairsOf permitted wordsOfLength wordsUpTo candidates routes pathsOf pathCount kinds
+    kindHolds apart inLanguage holds alphabet meetsItem meets permits wordsOf covers rival judge spoils verdict lacks addAgainst addAll termOf
+    mineFrom mine matterWords problemOf problemOver verdictOf minedList pairWords legalSymbol u16Bytes encodeWord encodeTerm encodeList decodeCount
+    decodeMany legalWord decodeWord decodeTerm decodeTerms decodeList hexDigit symbolText joined wordText termText listText listOf bytesOf verdictIn
+    digitsIn decimalText pairText verdictLine bytesIn listedEdge listedPair reckoned expected
 computed = refl
 
 -- two functions that give the same over a list agree at each of its members
