@@ -16,7 +16,8 @@ use Rattle.house_file.specs.Meaning.{chainOf, FieldsRight, WellFormed}
 use Rattle.house_file.proofs.WellFormedLaws.{accepted-iff-well-formed}
 use Rattle.canonical.specs.Canonical.{Entry, entriesOf, firstOf, canonicalOf}
 use Rattle.canonical.specs.Shape.{InLimits}
-use Rattle.canonical.proofs.LayoutLaws.{noEntry, first-step, first-order, canonical-size, canonical-edition, canonical-zero, canonical-parties, canonical-labels, canonical-language, canonical-longest, canonical-records}
+use Rattle.canonical.proofs.LayoutLaws.{noEntry, first-step, first-order, canonical-size, canonical-edition}
+use Rattle.canonical.proofs.LayoutLaws.{canonical-zero, canonical-parties, canonical-labels, canonical-language, canonical-longest, canonical-records}
 use Rattle.canonical.proofs.EntryLaws.{Says, entry-out, entries-distinct, says-pair, entries-few}
 use Rattle.canonical.proofs.ChainLaws.{At, canonical-chain, canonical-linked, chain-at, canonical-reached}
 

@@ -28,7 +28,8 @@ use Rattle.house_file.proofs.WellFormedLaws.{accepted-iff-well-formed}
 use Rattle.graph.specs.Archive.{matterOf}
 use Rattle.canonical.specs.Canonical.{Entry, saysKind, entriesOf, entriesBelow, firstOf, link, canonicalOf, recordFor}
 use Rattle.canonical.specs.Shape.{entryBefore, entryIn, InShape}
-use Rattle.canonical.proofs.LayoutLaws.{noEntry, first-step, party-record, canonical-edition, canonical-zero, canonical-parties, canonical-labels, canonical-language, canonical-longest, canonical-records, canonical-head}
+use Rattle.canonical.proofs.LayoutLaws.{noEntry, first-step, party-record, canonical-edition, canonical-zero}
+use Rattle.canonical.proofs.LayoutLaws.{canonical-parties, canonical-labels, canonical-language, canonical-longest, canonical-records, canonical-head}
 use Rattle.canonical.proofs.EntryLaws.{entry-in, entry-out, entries-ascending}
 use Rattle.canonical.proofs.ChainLaws.{link-inside, link-past}
 use Rattle.canonical.proofs.FileLaws.{recorded-in, recorded-out, matter-parties, matter-labels, matter-says, accepted-matter}
