@@ -34,8 +34,8 @@ uint64_t hempmallet_permit(const uint8_t *file, size_t file_len,
 /* What mining needs at least as scratch. */
 #define HEMPMALLET_SCRATCH 1024u
 
-/* The longest file that can be legal. */
-#define HEMPMALLET_LONGEST_FILE 35784u
+/* The longest file that can be legal; it is of edition 2. */
+#define HEMPMALLET_LONGEST_FILE 44712u
 
 /* The low byte of a reply: a refusal's number, below HEMPMALLET_FIRST_KIND, or one of these. */
 #define HEMPMALLET_FIRST_KIND 128u
@@ -63,7 +63,8 @@ enum {
     HEMPMALLET_REFUSED_PAIR = 10,            /* permit: a party of n or more, or the same party twice */
     HEMPMALLET_REFUSED_SCRATCH = 12,         /* mining: scratch below HEMPMALLET_SCRATCH bytes */
     HEMPMALLET_REFUSED_NOT_CONVERTIBLE = 13, /* mining: the file is not convertible */
-    HEMPMALLET_REFUSED_OUTPUT = 14           /* mining: output below the list's length */
+    HEMPMALLET_REFUSED_OUTPUT = 14,          /* mining: output below the list's length */
+    HEMPMALLET_REFUSED_OWNER = 15            /* file: in edition 2, an owner byte other than the chain's party */
 };
 
 /* The low byte of a reply. */

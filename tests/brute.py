@@ -1,4 +1,4 @@
-"""A slow and plain reckoning of document 01 and Ticket 1 of document 02, for small files.
+"""A slow and plain reckoning of document 01 and Tickets 1 and 2 of document 02, for small files.
 
 It is written from these alone and shares nothing with the product.
 Words are tuples of symbols, pairs are tuples of two parties, and a rule list
@@ -10,16 +10,24 @@ from collections import namedtuple
 
 PERMIT_KIND = 0xFF
 LARGEST_R = 8928
+FILE_REFUSALS = (1, 2, 3, 4, 5, 6, 7, 8, 15)
 SCRATCH_LENGTH = 1024
 NEXT_WORD_ROOM = 31
-PROGRAM_INPUT = 35785
+PROGRAM_INPUT = 44713
 PROGRAM_LIST = 65536
+
+# The bytes of a record in each edition. In edition 2 the owner follows the four of edition 1.
+RECORD_SIZES = {1: 4, 2: 5}
 
 # The kinds that each language uses: 0 plain, 1 absent, 2 inverse, 3 absent inverse.
 KINDS = {0: (0,), 1: (0, 1), 2: (0, 2), 3: (0, 1, 2, 3)}
 
 # What an accepted file says. edges holds (u, v, label), permits holds (u, v).
 House = namedtuple("House", "n labels language longest edges permits")
+
+# The first fault along the chains: the numbers that hold there, the refusal first; the party whose chain
+# it is, and the number of the record. At refusal 5 the record is the first one that is never reached.
+Fault = namedtuple("Fault", "numbers party record")
 
 
 # ---------------------------------------------------------------- the file
@@ -34,15 +42,25 @@ def head_of(data, party):
     return two_bytes(data, 8 + 2 * party)
 
 
+def place_of(data, number):
+    """Where a record begins; records are numbered from 1."""
+    return 8 + 2 * data[1] + RECORD_SIZES[data[0]] * (number - 1)
+
+
 def record_of(data, number):
-    """Target, kind byte and next of a record; records are numbered from 1."""
-    at = 8 + 2 * data[1] + 4 * (number - 1)
+    """Target, kind byte and next of a record."""
+    at = place_of(data, number)
     return data[at], data[at + 1], two_bytes(data, at + 2)
+
+
+def owner_of(data, number):
+    """The owner on a record of edition 2. None in edition 1, where no owner stands on it."""
+    return None if data[0] == 1 else data[place_of(data, number) + 4]
 
 
 def header_in_range(data):
     """Whether each header field is in its range. Any fault is refusal 2."""
-    if data[0] != 1:
+    if data[0] not in RECORD_SIZES:
         return False
     if not 1 <= data[1] <= 32:
         return False
@@ -63,36 +81,44 @@ def check(data):
         return 1
     if not header_in_range(data):
         return 2
-    if len(data) != 8 + 2 * data[1] + 4 * two_bytes(data, 6):
+    if len(data) != 8 + 2 * data[1] + RECORD_SIZES[data[0]] * two_bytes(data, 6):
         return 1
-    return check_chains(data)
+    fault = first_fault(data)
+    return fault.numbers[0] if fault else 0
 
 
-def check_chains(data):
-    """Follow the chains of all parties in order; 0 or a number from 3 to 8."""
-    n, labels, count = data[1], data[2], two_bytes(data, 6)
-    reached = set()
-    for party in range(n):
+def first_fault(data):
+    """Follow the chains of all parties in order; the first fault, or None."""
+    reached, count = set(), two_bytes(data, 6)
+    for party in range(data[1]):
         in_chain = set()
         link = head_of(data, party)
         while link != 0:
             if link > count:
-                return 3
-            if link in reached:
-                return 4
-            reached.add(link)
+                return Fault([3], party, link)
+            numbers = record_faults(data, party, link, reached, in_chain)
+            if numbers:
+                return Fault(numbers, party, link)
             target, kind, following = record_of(data, link)
-            if target >= n or target == party:
-                return 6
-            if kind >= labels and kind != PERMIT_KIND:
-                return 7
-            if (target, kind) in in_chain:
-                return 8
+            reached.add(link)
             in_chain.add((target, kind))
             link = following
-    if len(reached) < count:
-        return 5
-    return 0
+    missed = [number for number in range(1, count + 1) if number not in reached]
+    return Fault([5], None, missed[0]) if missed else None
+
+
+def record_faults(data, party, number, reached, in_chain):
+    """The numbers that hold at a record of the party's chain, in the order in which they are checked."""
+    n, labels = data[1], data[2]
+    target, kind, _ = record_of(data, number)
+    tests = [
+        (4, number in reached),
+        (15, owner_of(data, number) not in (None, party)),
+        (6, target >= n or target == party),
+        (7, kind >= labels and kind != PERMIT_KIND),
+        (8, (target, kind) in in_chain),
+    ]
+    return [refusal for refusal, holds_here in tests if holds_here]
 
 
 def decode(data):
@@ -114,18 +140,18 @@ def entries(house):
     return sorted(list(house.edges) + [(u, v, PERMIT_KIND) for u, v in house.permits])
 
 
-def canonical(house):
+def canonical(house, edition=2):
     """The file that write makes of this matter: its records stand in the order of entries."""
     listed = entries(house)
     owners = [owner for owner, _, _ in listed]
-    out = bytearray([1, house.n, house.labels, house.language, house.longest, 0])
+    out = bytearray([edition, house.n, house.labels, house.language, house.longest, 0])
     out += len(listed).to_bytes(2, "little")
     for party in range(house.n):
         head = owners.index(party) + 1 if party in owners else 0
         out += head.to_bytes(2, "little")
     for number, (owner, target, kind) in enumerate(listed, 1):
         following = number + 1 if owners[number:number + 1] == [owner] else 0
-        out += bytes([target, kind]) + following.to_bytes(2, "little")
+        out += bytes([target, kind]) + following.to_bytes(2, "little") + bytes([owner] if edition == 2 else [])
     return bytes(out)
 
 
@@ -229,12 +255,13 @@ def next_word(house, u, v, word):
 
 
 class Known:
-    """A file's check, its house, the words of its pairs and its verdict, each reckoned once.
+    """A file's check, edition and house, the words of its pairs and its verdict, each reckoned once.
 
     other is known of a file that differs in its permits at most; graph and words are taken from it."""
 
     def __init__(self, data, other=None):
         self.refusal = check(data)
+        self.edition = None if self.refusal else data[0]
         self.house = None if self.refusal else decode(data)
         if other is None:
             self.graph = None if self.refusal else enlarged(self.house)

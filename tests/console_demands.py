@@ -4,6 +4,7 @@ Without these demands a set of files that happens to be dull would pass.
 """
 
 import brute
+import files
 import run_paths
 import run_permit
 
@@ -18,6 +19,7 @@ def verdict_occurrences(made, reply):
         return ["refused %d" % reply[1]]
     known, house = made.known, made.known.house
     found = [reply[0], "%s in language %d" % (reply[0], house.language), "%s of %s" % (reply[0], made.kind)]
+    found.append("%s in edition %d" % (reply[0], known.edition))
     found += ["%s at D 1" % reply[0]] if house.longest == 1 else []
     found += ["%s at D n or more" % reply[0]] if house.longest >= house.n else []
     found += ["%s of more than 6 parties" % reply[0]] if house.n > 6 else []
@@ -70,6 +72,7 @@ def mining_occurrences(known, reply, scratch_length, output_length):
     found = ["refused %d" % reply[1] if reply[0] == "refused" else "mined"]
     if known.refusal:
         return ["file refused"] + (["file refused with short scratch"] if scratch_length < SCRATCH else [])
+    found.append("%s in edition %d" % (found[0], known.edition))
     convertible = known.verdict()[0] == "convertible"
     if reply == ("refused", 12):
         found.append("refused 12 with scratch of %d" % scratch_length)
@@ -93,7 +96,7 @@ def permit_occurrences(known, pair, listed, reply):
         found += ["refused 10 with a broken list"] if broken else []
         found += ["a party above 255"] if max(pair) > 255 else []
     elif reply[0] != "refused":
-        found.append("%s in language %d" % (reply[0], known.house.language))
+        found += ["%s in language %d" % (reply[0], known.house.language), "%s in edition %d" % (reply[0], known.edition)]
     return found
 
 
@@ -105,6 +108,10 @@ DEMANDS = {
     "verdict: convertible of random permits": 100, "verdict: convertible of one party": 50,
     "verdict: convertible of damaged": 50,
     "verdict: convertible of copy": 100, "verdict: rival of copy": 100, "verdict: no-word of copy": 50,
+    "verdict: convertible of the other edition": 100, "verdict: rival of the other edition": 100,
+    "verdict: no-word of the other edition": 50,
+    "asked in both editions": 500, "asked with the copy of one of edition 1": 200,
+    "asked with the copy of one of edition 2": 200,
     "verdict: no-word of a later permitted pair": 500, "verdict: rival of a later permitted pair": 500,
     "verdict: rival that is a later unpermitted pair": 500, "verdict: rival of a pair with several words": 500,
     "verdict: several rivals": 500, "verdict: rival among permitted pairs before it": 300,
@@ -124,9 +131,13 @@ DEMANDS = {
     "permit: refused 10 with a broken list": 500, "permit: a party above 255": 5000, "permit: file refused": 5000,
     "mined with all sizes": 500, "rivals shown": RIVAL_FILES, "rivals shown of several words": 300,
     "larger files: rows": 40, "larger files: convertible": 10, "larger files: rival": 10, "larger files: no-word": 3,
-    "larger files: a list above 65,535 bytes": 2,
+    "larger files: a list above 65,535 bytes": 2, "larger files: edition 1": 10, "larger files: edition 2": 10,
 }
-DEMANDS.update({"verdict: refused %d" % number: 100 for number in range(1, 9)})
+DEMANDS.update({"verdict: refused %d" % number: 100 for number in brute.FILE_REFUSALS})
+DEMANDS.update({"%s in edition %d" % (what, edition): fewest for edition in files.EDITIONS for what, fewest in (
+    ("verdict: convertible", 2500), ("verdict: no-word", 800), ("verdict: rival", 1200), ("mining: mined", 8000),
+    ("mining: refused 12", 2000), ("mining: refused 13", 3000), ("mining: refused 14", 3000),
+    ("permit: yes", 4000), ("permit: no", 12000))})
 for answer in ("convertible", "no-word", "rival"):
     DEMANDS.update({"verdict: %s in language %d" % (answer, language): 200
                     for language in ((0, 1, 2, 3) if answer != "no-word" else (0, 2))})

@@ -84,6 +84,11 @@ def with_permits(rng, matter, known, kind, permits):
     return Made(kind, data, brute.Known(data, known))
 
 
+def in_other_edition(rng, made):
+    """A file of the other edition with the matter of an accepted one, its records in another order."""
+    return files.lay_out(made.known.house, rng, files.other_edition(made.known.edition)).bytes()
+
+
 def damaged(rng, data):
     """A damaged file: this one with its bytes changed, cut or extended, or another; None where its
     words would be too many to list."""

@@ -1,24 +1,30 @@
 """House files for the tests: valid ones, and ones with damages.
 
 Everything random comes from a random.Random that the caller gives, so that
-a fixed seed gives the same files each time. Nothing here decides what a file's
-reply is; that is brute.py's part.
+a fixed seed gives the same files each time. Where no edition is asked for, it is
+1 or 2, each as likely. Nothing here decides what a file's reply is; that is
+brute.py's part.
 """
 
+import functools
 from collections import namedtuple
 
 PERMIT_KIND = 0xFF
 LARGEST_R = 8928
+EDITIONS = (1, 2)
+LONGEST_FILES = {1: 35784, 2: 44712}
 
 # What a file is to say. edges holds (u, v, label), permits holds (u, v).
 Matter = namedtuple("Matter", "n labels language longest edges permits")
 
 
 class Draft:
-    """A house file in parts, so that a damage can change one part alone."""
+    """A house file in parts, so that a damage can change one part alone.
 
-    def __init__(self, n, labels, language, longest):
-        self.edition = 1
+    edition is the header's byte, body the edition in which the records are written."""
+
+    def __init__(self, n, labels, language, longest, edition):
+        self.edition = self.body = edition
         self.n = n
         self.labels = labels
         self.language = language
@@ -26,7 +32,7 @@ class Draft:
         self.spare = 0
         self.count = 0
         self.heads = [0] * n
-        self.records = []  # lists of target, kind byte, next
+        self.records = []  # lists of target, kind byte, next, owner; edition 1 leaves the owner out
         self.tail = b""
 
     def bytes(self):
@@ -35,8 +41,8 @@ class Draft:
         out += self.count.to_bytes(2, "little")
         for head in self.heads:
             out += head.to_bytes(2, "little")
-        for target, kind, following in self.records:
-            out += bytes([target, kind]) + following.to_bytes(2, "little")
+        for target, kind, following, owner in self.records:
+            out += bytes([target, kind]) + following.to_bytes(2, "little") + bytes([owner] if self.body == 2 else [])
         return bytes(out) + self.tail
 
     def get_link(self, place):
@@ -64,11 +70,23 @@ class Draft:
         """The places of the links along a party's chain, from its head to its end."""
         return [("head", party)] + [("next", r) for r in self.chain(party)]
 
-    def add_record(self, target, kind, following):
+    def add_record(self, target, kind, following, owner):
         """Add a record after the others and return its number."""
-        self.records.append([target, kind, following])
+        self.records.append([target, kind, following, owner])
         self.count += 1
         return len(self.records)
+
+    def put_in_chain(self, party, place, target, kind):
+        """Add a record at a place of the party's chain and return its number."""
+        number = self.add_record(target, kind, self.get_link(place), party)
+        self.set_link(place, number)
+        return number
+
+    def give_owners(self):
+        """Each record's owner becomes the first party whose chain it stands in."""
+        for party in reversed(range(self.n)):
+            for number in self.chain(party):
+                self.records[number - 1][3] = party
 
 
 # --------------------------------------------------------------- valid files
@@ -122,9 +140,17 @@ def random_matter(rng, n=None, labels=None, language=None, longest=None, most=No
     return matter_of(n, labels, language, longest, indexes)
 
 
-def lay_out(matter, rng):
+def some_edition(rng):
+    return rng.choice(EDITIONS)
+
+
+def other_edition(edition):
+    return 3 - edition
+
+
+def lay_out(matter, rng, edition=None):
     """A draft of a valid file: records in random order, each chain in random order."""
-    draft = Draft(matter.n, matter.labels, matter.language, matter.longest)
+    draft = Draft(matter.n, matter.labels, matter.language, matter.longest, edition or some_edition(rng))
     chains = [[] for _ in range(matter.n)]
     for u, v, label in sorted(matter.edges):
         chains[u].append((v, label))
@@ -139,7 +165,7 @@ def lay_out(matter, rng):
         following = 0
         for target, kind in chain:
             number = free.pop()
-            draft.records[number - 1] = [target, kind, following]
+            draft.records[number - 1] = [target, kind, following, u]
             following = number
         draft.heads[u] = following
     return draft
@@ -160,6 +186,11 @@ def random_file(rng, **chosen):
 def some_place(draft, rng):
     """Some place of a link that is followed."""
     return rng.choice(draft.places(rng.randrange(draft.n)))
+
+
+def last_place(draft, party):
+    """The place at the end of a party's chain."""
+    return draft.places(party)[-1]
 
 
 def some_reached(draft, rng):
@@ -204,12 +235,22 @@ def crossed_at_own_party(draft, rng):
         return False
     _, number = rng.choice(fit)
     party = draft.records[number - 1][0]
-    draft.set_link(draft.places(party)[-1], number)
+    draft.set_link(last_place(draft, party), number)
+    return True
+
+
+def led_back(draft, rng):
+    """A chain ends in a record of an earlier chain, which keeps it and is its owner."""
+    fit = [(party, number) for party in range(draft.n) for u in range(party) for number in draft.chain(u)]
+    if not fit:
+        return False
+    party, number = rng.choice(fit)
+    draft.set_link(last_place(draft, party), number)
     return True
 
 
 def tails_exchanged(draft, rng):
-    """Two links of different chains are exchanged; each record stays in one chain."""
+    """Two links of different chains are exchanged; each record stays in one chain. The owners follow half the times."""
     first, second = rng.randrange(draft.n), rng.randrange(draft.n)
     if first == second:
         return False
@@ -219,6 +260,8 @@ def tails_exchanged(draft, rng):
         return False
     draft.set_link(one, link_other)
     draft.set_link(other, link_one)
+    if rng.random() < 0.5:
+        draft.give_owners()
     return True
 
 
@@ -243,92 +286,140 @@ def record_skipped(draft, rng):
 
 def record_unnamed(draft, rng):
     """One more record that no link names. Its own bytes are anything."""
-    draft.add_record(rng.randrange(256), rng.randrange(256), rng.randrange(65536))
+    draft.add_record(rng.randrange(256), rng.randrange(256), rng.randrange(65536), rng.randrange(256))
     return True
 
 
 def cycle_unreached(draft, rng):
     """Two more records that lead to each other and that no chain reaches."""
     number = len(draft.records) + 1
-    draft.add_record(rng.randrange(draft.n), 0, number + 1)
-    draft.add_record(rng.randrange(draft.n), PERMIT_KIND, number)
+    draft.add_record(rng.randrange(draft.n), 0, number + 1, rng.randrange(draft.n))
+    draft.add_record(rng.randrange(draft.n), PERMIT_KIND, number, rng.randrange(draft.n))
     return True
 
 
-def target_too_high(draft, rng):
+def at_record(choose):
+    """Makes a damage of a change at one record: choose gives the party and the record's number, or None.
+    A change that finds nothing to do answers False."""
+    def damage_of(change):
+        @functools.wraps(change)
+        def damage(draft, rng):
+            found = choose(draft, rng)
+            return found is not None and change(draft, rng, *found) is not False
+        return damage
+    return damage_of
+
+
+@at_record(some_reached)
+def target_too_high(draft, rng, party, number):
     """A target of n or more."""
-    found = some_reached(draft, rng)
-    if found is None:
-        return False
     n = draft.n
-    draft.records[found[1] - 1][0] = rng.choice([n, n, n, min(n + 1, 255), 32, 255])
-    return True
+    draft.records[number - 1][0] = rng.choice([n, n, n, min(n + 1, 255), 32, 255])
 
 
-def target_own_party(draft, rng):
+@at_record(some_reached)
+def target_own_party(draft, rng, party, number):
     """A target that is the chain's own party."""
-    found = some_reached(draft, rng)
-    if found is None:
-        return False
-    draft.records[found[1] - 1][0] = found[0]
-    return True
+    draft.records[number - 1][0] = party
 
 
-def kind_wrong(draft, rng):
+@at_record(some_reached)
+def kind_wrong(draft, rng, party, number):
     """A kind byte that is neither a label below L nor FF."""
-    found = some_reached(draft, rng)
-    if found is None:
-        return False
     labels = draft.labels
-    draft.records[found[1] - 1][1] = rng.choice([labels, labels, labels, labels + 1, 127, 128, 254])
-    return True
+    draft.records[number - 1][1] = rng.choice([labels, labels, labels, labels + 1, 127, 128, 254])
 
 
-def target_and_kind_wrong(draft, rng):
+@at_record(some_reached)
+def target_and_kind_wrong(draft, rng, party, number):
     """Both faults at one record."""
-    found = some_reached(draft, rng)
-    if found is None:
-        return False
-    draft.records[found[1] - 1][0] = rng.choice([found[0], draft.n, 255])
-    draft.records[found[1] - 1][1] = rng.choice([draft.labels, 254])
-    return True
+    draft.records[number - 1][0] = rng.choice([party, draft.n, 255])
+    draft.records[number - 1][1] = rng.choice([draft.labels, 254])
 
 
-def repeat_in_chain(draft, rng):
+@at_record(some_reached)
+def repeat_in_chain(draft, rng, party, number):
     """One more record in a chain with target and kind as in an earlier one."""
-    found = some_reached(draft, rng)
-    if found is None:
-        return False
-    party, number = found
-    target, kind, _ = draft.records[number - 1]
-    place = rng.choice(draft.places(party))
-    added = draft.add_record(target, kind, draft.get_link(place))
-    draft.set_link(place, added)
-    return True
+    draft.put_in_chain(party, rng.choice(draft.places(party)), *draft.records[number - 1][:2])
 
 
-def repeat_in_other_chain(draft, rng):
+@at_record(some_reached)
+def repeat_in_other_chain(draft, rng, party, number):
     """One more record with target and kind as in another chain: legal where no other fault is made."""
-    found = some_reached(draft, rng)
-    if found is None:
-        return False
-    party, number = found
-    target, kind, _ = draft.records[number - 1]
+    target, kind = draft.records[number - 1][:2]
     others = [u for u in range(draft.n) if u not in (party, target)
               and all(draft.records[r - 1][:2] != [target, kind] for r in draft.chain(u))]
     if not others:
         return False
-    place = rng.choice(draft.places(rng.choice(others)))
-    added = draft.add_record(target, kind, draft.get_link(place))
-    draft.set_link(place, added)
+    other = rng.choice(others)
+    draft.put_in_chain(other, rng.choice(draft.places(other)), target, kind)
     return True
+
+
+# Damages of owners, which a draft of edition 1 has no place for.
+
+def some_owned(draft, rng):
+    """Some party and a record of its chain, in edition 2; else None."""
+    return some_reached(draft, rng) if draft.body == 2 else None
+
+
+def another_party(draft, rng, party):
+    """Some other party of the file."""
+    return rng.choice([other for other in range(draft.n) if other != party])
+
+
+def wrong_owner(draft, rng, party):
+    """An owner byte that is not this party: another party of the file, n or 255."""
+    return rng.choice([another_party(draft, rng, party), another_party(draft, rng, party), draft.n, 255])
+
+
+@at_record(some_owned)
+def owner_another_party(draft, rng, party, number):
+    """An owner that is another party of the file."""
+    draft.records[number - 1][3] = another_party(draft, rng, party)
+
+
+@at_record(some_owned)
+def owner_too_high(draft, rng, party, number):
+    """An owner of n or more."""
+    n = draft.n
+    draft.records[number - 1][3] = rng.choice([n, n, n, n + 1, 32 + party, 128 + party, 255, 255])
+
+
+@at_record(some_owned)
+def owner_and_target_wrong(draft, rng, party, number):
+    """Both faults at one record; the owner is the target at times."""
+    target = rng.choice([party, draft.n, 255])
+    owner = target if target != party and rng.random() < 0.3 else wrong_owner(draft, rng, party)
+    draft.records[number - 1][0], draft.records[number - 1][3] = target, owner
+
+
+@at_record(some_owned)
+def owner_and_kind_wrong(draft, rng, party, number):
+    """Both faults at one record."""
+    draft.records[number - 1][1], draft.records[number - 1][3] = rng.choice([draft.labels, 254]), wrong_owner(draft, rng, party)
+
+
+@at_record(some_owned)
+def owner_wrong_at_repeat(draft, rng, party, number):
+    """A chain ends in one more record, with target and kind as in an earlier one and another owner."""
+    added = draft.put_in_chain(party, last_place(draft, party), *draft.records[number - 1][:2])
+    draft.records[added - 1][3] = wrong_owner(draft, rng, party)
+
+
+@at_record(some_owned)
+def owner_wrong_unreached(draft, rng, party, number):
+    """A link passes over one record, which is never reached and has another owner."""
+    place = [place for place in draft.places(party) if draft.get_link(place) == number][0]
+    draft.set_link(place, draft.records[number - 1][2])
+    draft.records[number - 1][3] = wrong_owner(draft, rng, party)
 
 
 def header_field_wrong(draft, rng):
     """One header field outside its range; the length stays as it was."""
     field = rng.choice(["edition", "n", "labels", "language", "longest", "spare", "count"])
     wrong = {
-        "edition": [0, 2, 255],
+        "edition": [0, 3, 255],
         "n": [0, 33, 34, 255],
         "labels": [0, 9, 10, 255],
         "language": [4, 5, 128, 255],
@@ -348,6 +439,12 @@ def header_field_other(draft, rng):
     return True
 
 
+def header_of_other_edition(draft, rng):
+    """The header says the other edition. Without records the file is legal in both."""
+    draft.edition = other_edition(draft.body)
+    return True
+
+
 def count_off_by_one(draft, rng):
     """R is one more or one less than the records that stand there."""
     count = draft.count + rng.choice([-1, 1])
@@ -357,21 +454,25 @@ def count_off_by_one(draft, rng):
     return True
 
 
+OWNER_DAMAGES = [
+    owner_another_party, owner_too_high, owner_and_target_wrong, owner_and_kind_wrong,
+    owner_wrong_at_repeat, owner_wrong_unreached,
+]
 DAMAGES = [
-    link_too_high, cycle, crossed, crossed_at_own_party, tails_exchanged,
+    link_too_high, cycle, crossed, crossed_at_own_party, led_back, tails_exchanged,
     chain_cut_off, record_skipped, record_unnamed, cycle_unreached,
     target_too_high, target_own_party, kind_wrong, target_and_kind_wrong,
-    repeat_in_chain, repeat_in_other_chain,
-    header_field_wrong, header_field_other, count_off_by_one,
+    repeat_in_chain, repeat_in_other_chain, *OWNER_DAMAGES,
+    header_field_wrong, header_field_other, header_of_other_edition, count_off_by_one,
 ]
 
 # Damages that keep the chains' lists sound enough for a second damage after them.
 CHAIN_DAMAGES = [
-    link_too_high, cycle, crossed, crossed_at_own_party, tails_exchanged,
+    link_too_high, cycle, crossed, crossed_at_own_party, led_back, tails_exchanged,
     chain_cut_off, record_skipped, record_unnamed, target_too_high,
-    target_own_party, kind_wrong, repeat_in_chain, repeat_in_other_chain,
+    target_own_party, kind_wrong, repeat_in_chain, repeat_in_other_chain, *OWNER_DAMAGES,
 ]
-LENGTH_AND_HEADER_DAMAGES = [header_field_wrong, header_field_other, count_off_by_one]
+LENGTH_AND_HEADER_DAMAGES = [header_field_wrong, header_field_other, header_of_other_edition, count_off_by_one]
 
 
 def damaged_draft(rng, damage, **chosen):
@@ -408,7 +509,7 @@ def cut(data, rng):
     if part < 0.3:
         return data[:len(data) - 1]
     if part < 0.5:
-        return data[:max(0, len(data) - 4)]
+        return data[:max(0, len(data) - rng.choice([4, 5]))]
     if part < 0.7:
         return data[:rng.randint(0, 8)]
     return data[:rng.randrange(len(data))]
@@ -416,8 +517,35 @@ def cut(data, rng):
 
 def lengthened(data, rng):
     """Bytes stand after the end: one, a record's worth, or some."""
-    more = rng.choice([1, 2, 4, 8, rng.randint(1, 40)])
+    more = rng.choice([1, 2, 4, 5, 8, rng.randint(1, 40)])
     return data + bytes(rng.choice([0, 1, 255, rng.randrange(256)]) for _ in range(more))
+
+
+def length_in(edition, data):
+    """The length that these header bytes ask for in an edition."""
+    return 8 + 2 * data[1] + (4 if edition == 1 else 5) * int.from_bytes(data[6:8], "little")
+
+
+def of_length_in(edition, data):
+    """The file cut, or extended by zeros, to the length that an edition asks for."""
+    return data[:length_in(edition, data)].ljust(length_in(edition, data), b"\0")
+
+
+def in_edition_1(data):
+    """An accepted file in edition 1: its records where they are, without owners."""
+    if data[0] == 1:
+        return data
+    start = 8 + 2 * data[1]
+    return b"\1" + data[1:start] + b"".join(data[at:at + 4] for at in range(start, len(data), 5))
+
+
+def of_two_editions(rng):
+    """A file of one edition with the header's byte, the length or both of the other."""
+    draft = random_draft(rng)
+    other = other_edition(draft.body)
+    part = rng.randrange(3)
+    draft.edition = draft.body if part == 0 else other
+    return draft.bytes() if part == 1 else of_length_in(other, draft.bytes())
 
 
 def header_and_length_wrong(rng):
@@ -432,9 +560,9 @@ def random_bytes(rng):
 
 
 def random_links(rng):
-    """A right header and length; heads and records from a few small values."""
+    """A right header and length; heads and records from a few small values, owners most often right."""
     n, labels = rng.randint(1, 4), rng.randint(1, 3)
-    draft = Draft(n, labels, rng.randint(0, 3), rng.randint(1, 31))
+    draft = Draft(n, labels, rng.randint(0, 3), rng.randint(1, 31), some_edition(rng))
     count = rng.randint(0, 6)
     highest = count + (1 if rng.random() < 0.2 else 0)
     targets = n + (1 if rng.random() < 0.2 else 0)
@@ -443,7 +571,9 @@ def random_links(rng):
         kinds.append(labels)
     draft.heads = [rng.randint(0, highest) for _ in range(n)]
     for _ in range(count):
-        draft.add_record(rng.randrange(targets), rng.choice(kinds), rng.randint(0, highest))
+        draft.add_record(rng.randrange(targets), rng.choice(kinds), rng.randint(0, highest), rng.randrange(n + 1))
+    if rng.random() < 0.8:
+        draft.give_owners()
     return draft.bytes()
 
 
@@ -460,7 +590,7 @@ def limit_files(rng):
         files.append(random_file(rng, language=language, most=60))
     for longest in (1, 2, 30, 31):
         files.append(random_file(rng, longest=longest, most=60))
-    for field, value in (("edition", 0), ("edition", 2), ("labels", 0), ("labels", 9),
+    for field, value in (("edition", 0), ("edition", 3), ("edition", 255), ("labels", 0), ("labels", 9),
                          ("language", 4), ("longest", 0), ("longest", 32), ("spare", 1)):
         draft = random_draft(rng)
         setattr(draft, field, value)
@@ -479,57 +609,70 @@ def highest_values(rng):
     for n, labels in ((32, 8), (2, 1), (5, 8), (32, 1)):
         for target in (n - 1, n):
             for kind in (labels - 1, labels, 254, PERMIT_KIND):
-                draft = Draft(n, labels, rng.randint(0, 3), rng.randint(1, 31))
-                draft.heads[0] = draft.add_record(target, kind, 0)
-                files.append(draft.bytes())
+                for edition in EDITIONS:
+                    draft = Draft(n, labels, rng.randint(0, 3), rng.randint(1, 31), edition)
+                    draft.heads[0] = draft.add_record(target, kind, 0, 0)
+                    files.append(draft.bytes())
+    return files
+
+
+def highest_owners(rng):
+    """One record of the first or the last party, with its right owner and with others at the limits."""
+    files = []
+    for n, party in ((2, 0), (2, 1), (32, 0), (32, 31)):
+        for owner in (0, 1, n - 1, n, 255):
+            draft = Draft(n, 1, rng.randint(0, 3), rng.randint(1, 31), 2)
+            draft.heads[party] = draft.add_record(0 if party else 1, 0, 0, owner)
+            files.append(draft.bytes())
     return files
 
 
 # --------------------------------------------------------------- large files
 
-def full_draft(rng, language, longest):
+def full_draft(rng, language, longest, edition=None):
     """n 32, L 8 and R 8,928: every relation and every permit that can be."""
     possible = entries_of(32, 8)
-    return lay_out(matter_of(32, 8, language, longest, range(possible)), rng)
-
-
-def last_place(draft, party):
-    return draft.places(party)[-1]
+    return lay_out(matter_of(32, 8, language, longest, range(possible)), rng, edition)
 
 
 def full_files(rng):
     """Full files, valid and with one fault: somewhere, at the end, or at a certain record."""
-    files = [full_draft(rng, language, longest).bytes()
-             for language, longest in ((0, 31), (1, 1), (2, 30), (3, 31))]
+    files = [full_draft(rng, language, longest, edition).bytes()
+             for language, longest in ((0, 31), (1, 1), (2, 30), (3, 31)) for edition in EDITIONS]
     for fault in (link_too_high, cycle, crossed, tails_exchanged, chain_cut_off,
-                  record_skipped, target_too_high, target_own_party, kind_wrong):
-        draft = full_draft(rng, rng.randint(0, 3), rng.randint(1, 31))
-        if fault(draft, rng):
-            files.append(draft.bytes())
-    files += full_files_with_fault_at_end(rng)
+                  record_skipped, target_too_high, target_own_party, kind_wrong, *OWNER_DAMAGES):
+        for edition in EDITIONS:
+            draft = full_draft(rng, rng.randint(0, 3), rng.randint(1, 31), edition)
+            if fault(draft, rng):
+                files.append(draft.bytes())
+    for edition in EDITIONS:
+        files += full_files_with_fault_at_end(rng, edition)
     for number in (1, 255, 256, 4095, 4096, 8191, 8192, LARGEST_R - 1, LARGEST_R):
         files += full_files_with_fault_at_record(rng, number)
     return files
 
 
-def full_files_with_fault_at_end(rng):
+def full_files_with_fault_at_end(rng, edition):
     """Full files whose only fault is at the last record of the last chain."""
     files = []
-    draft = full_draft(rng, 0, 31)
+    draft = full_draft(rng, 0, 31, edition)
     end = draft.chain(31)[-1]
     first = draft.chain(31)[0]
     of_party_0 = draft.chain(0)[0]
     sound = list(draft.records[end - 1])
+    target, kind = sound[:2]
     faults = [
-        [sound[0], sound[1], LARGEST_R + 1],
-        [sound[0], sound[1], of_party_0],
-        [sound[0], sound[1], end],
-        [32, sound[1], 0],
-        [31, sound[1], 0],
-        [sound[0], 8, 0],
-        [sound[0], 254, 0],
-        draft.records[first - 1][:2] + [0],
+        [target, kind, LARGEST_R + 1, 31],
+        [target, kind, of_party_0, 31],
+        [target, kind, end, 31],
+        [32, kind, 0, 31],
+        [31, kind, 0, 31],
+        [target, 8, 0, 31],
+        [target, 254, 0, 31],
+        draft.records[first - 1][:2] + [0, 31],
     ]
+    if edition == 2:
+        faults += [[target, kind, 0, 0], [target, kind, 0, 32], [31, 8, LARGEST_R + 1, 30]]
     for fault in faults:
         draft.records[end - 1] = fault
         files.append(draft.bytes())
@@ -556,20 +699,22 @@ def full_files_with_fault_at_record(rng, number):
 
 def limit_of_count_files(rng):
     """R 8,928 and R 8,929 with right and wrong lengths, and other numbers of parties."""
-    full = full_draft(rng, 3, 31)
-    data = full.bytes()
-    files = [data[:-1], data[:-4], data + b"\0", data + bytes(4), data + bytes(40000 - len(data))]
-    full.count = LARGEST_R + 1
-    files.append(full.bytes())
-    full.records.append([1, 0, 0])
-    files.append(full.bytes())
-    files.append(full.bytes() + bytes(40000 - len(full.bytes())))
-    for n in (1, 2, 31, 32, 33):
-        for count in (LARGEST_R, LARGEST_R + 1):
-            draft = Draft(n, 8, 0, 31)
-            draft.count = count
-            draft.records = [[rng.randrange(n), rng.randrange(8), 0] for _ in range(count)]
-            files.append(draft.bytes())
+    files = []
+    for edition in EDITIONS:
+        full = full_draft(rng, 3, 31, edition)
+        data = full.bytes()
+        files += [data[:-1], data[:-4], data[:-5], data + b"\0", data + bytes(4), data + bytes(5),
+                  data.ljust(50000, b"\0"), of_length_in(other_edition(edition), data)]
+        full.count = LARGEST_R + 1
+        files.append(full.bytes())
+        full.records.append([1, 0, 0, 0])
+        files += [full.bytes(), full.bytes().ljust(50000, b"\0")]
+        for n in (1, 2, 31, 32, 33):
+            for count in (LARGEST_R, LARGEST_R + 1):
+                draft = Draft(n, 8, 0, 31, edition)
+                draft.count = count
+                draft.records = [[rng.randrange(n), rng.randrange(8), 0, rng.randrange(n)] for _ in range(count)]
+                files.append(draft.bytes())
     for n in (2, 32):
         for count in (LARGEST_R, LARGEST_R + 1):
             draft = random_draft(rng, n=n)
@@ -580,17 +725,17 @@ def limit_of_count_files(rng):
 
 def one_chain_draft(rng, party, length, count):
     """n 32, L 8: one chain of the given length; records are made up to the given count."""
-    draft = Draft(32, 8, rng.randint(0, 3), rng.randint(1, 31))
+    draft = Draft(32, 8, rng.randint(0, 3), rng.randint(1, 31), some_edition(rng))
     draft.count = count
     kinds = list(range(8)) + [PERMIT_KIND]
     sorts = [[target, kind] for target in range(32) if target != party for kind in kinds]
     rng.shuffle(sorts)
     numbers = list(range(1, count + 1))
     rng.shuffle(numbers)
-    draft.records = [[0, 0, 0] for _ in range(count)]
+    draft.records = [[0, 0, 0, 0] for _ in range(count)]
     for step in range(length):
         following = numbers[step + 1] if step + 1 < length else 0
-        draft.records[numbers[step] - 1] = sorts[step % len(sorts)] + [following]
+        draft.records[numbers[step] - 1] = sorts[step % len(sorts)] + [following, party]
     draft.heads[party] = numbers[0]
     return draft
 

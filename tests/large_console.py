@@ -329,7 +329,7 @@ def ask_all(run):
     for row in table():
         made = converting.Made(row.name, row.data, None)
         run.hold("verdict", made, row.name, row.reply, run.functions.verdict(row.data))
-        run.count("larger files", ["rows", row.reply[0]])
+        run.count("larger files", ["rows", row.reply[0], "edition %d" % row.data[0]])
         if row.terms is None:
             hold_mining(run, made, ("refused", 13), 40)
             continue

@@ -2,7 +2,7 @@
 
     python3 tests/make_examples.py [FOLDER]
 
-a, b and c are 01's cases. archive32 is an archive of 32 parties: its permits
+a, b and c are 01's cases, a2 is case A in edition 2. archive32 is an archive of 32 parties: its permits
 are those of four rules, so it converts. The random source is fixed, so that the
 same bytes are written each time.
 """
@@ -57,14 +57,15 @@ def archive32():
     """The archive, its permits those of the rules."""
     rng = random.Random(32)
     matter = files.Matter(32, 4, LANGUAGE, LONGEST, archive_edges(rng), set())
-    known = brute.Known(files.lay_out(matter, rng).bytes())
+    known = brute.Known(files.lay_out(matter, rng, 1).bytes())
     permits = {pair for pair in brute.pairs(known.house) if brute.permits_by(RULES, known.least_paths(*pair))}
-    return files.lay_out(matter._replace(permits=permits), rng).bytes()
+    return files.lay_out(matter._replace(permits=permits), rng, 1).bytes()
 
 
 def examples():
     """The bytes of each file, by its name."""
     made = {"%s.house" % letter.lower(): stored.case_file(letter) for letter in "ABC"}
+    made["a2.house"] = stored.case_file("A in edition 2")
     made["archive32.house"] = archive32()
     return made
 

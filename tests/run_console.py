@@ -5,8 +5,9 @@
 Every file has its verdict asked, is mined with scratch and output of sizes at
 and beside the limits, and its mined list is given to permit for every pair.
 Where the verdict names a rival, the program `cases` shows a path of the pair
-and one of the rival for each of the pair's words. Then come the larger files of
-large_console.py. The seeds are fixed. The last line printed is `N passed,
+and one of the rival for each of the pair's words. Some files are then asked
+about once more as their copies and in the other edition. Then come the larger
+files of large_console.py. The seeds are fixed. The last line printed is `N passed,
 M failed`: N counts calls; M counts calls and, beside them, demands on the set
 of files that are not met. The exit status is 0 only where M is 0.
 """
@@ -37,7 +38,7 @@ WIDE_GRAPHS = 60
 DAMAGED_FILES = 5000
 MOST_RIVAL_WORDS = 40
 ALL_SIZES_PART = 0.1        # of the convertible files
-COPIED_EVERY = 20           # of the files, one
+AGAIN_EVERY = 20            # of the files, one
 SCRATCH = brute.SCRATCH_LENGTH
 SECONDS_OF_RUN = 1500     # a call that does not end ends the run without its last line
 
@@ -196,8 +197,9 @@ def path_case(run, made, pair, word):
 
 # ------------------------------------------------------------------------ the run
 
-# The numbers that docs/EXPORTS.md has: 01's cases A, B and C and a refused file for the verdict; for mining and permit, A.
-PACKED = [("A", 0x780), ("B", 0x0201010082), ("C", 0x0281), ("A with record 2's next 01 00", 4)]
+# The numbers that docs/EXPORTS.md has: 01's cases A, B and C, A in edition 2 and refused files for the verdict; for mining and permit, A.
+PACKED = [("A", 0x780), ("B", 0x0201010082), ("C", 0x0281), ("A with record 2's next 01 00", 4),
+          ("A in edition 2", 0x780), ("A in edition 2 with record 1's owner 01", 15)]
 PACKED_MINING = 0x780
 PACKED_PERMIT = [((0, 1), 0x80), ((0, 2), 0x81)]
 
@@ -220,25 +222,38 @@ def hold_packed(run):
 
 
 def ask_all(run):
-    """All calls on every file, and then on the copies of some."""
+    """All calls on every file, and then on other files of the same matter for some."""
     asked = []
     for number, made in enumerate(converting.drawn(run.rng, GRAPHS, WIDE_GRAPHS, DAMAGED_FILES)):
         ask(run, made)
-        if number % COPIED_EVERY == 0 and not made.known.refusal:
+        if number % AGAIN_EVERY == 0 and not made.known.refusal:
             asked.append(made)
     for made in asked:
-        ask_copy(run, made)
+        ask_others(run, made)
 
 
-def ask_copy(run, made):
-    """All calls on the file's copy, where it is another file; the verdict must be the file's."""
+def ask_others(run, made):
+    """All calls on the file's copy, where it is another file, and on a file in the other edition."""
     copy = brute.canonical(made.known.house)
-    if copy == made.data:
-        return
-    known = brute.Known(copy)
-    if brute.verdict_reply(known) != brute.verdict_reply(made.known):
-        run.tally.fault("the copy of a file has another verdict")
-    ask(run, converting.Made("copy", copy, known))
+    if copy != made.data:
+        ask_again(run, made, "copy", copy)
+        run.account["asked with the copy of one of edition %d" % made.known.edition] += 1
+    ask_again(run, made, "the other edition", converting.in_other_edition(run.rng, made))
+    run.account["asked in both editions"] += 1
+
+
+def ask_again(run, made, kind, data):
+    """All calls on another file with the file's matter; verdict and list must be the file's."""
+    known = brute.Known(data)
+    if said(known) != said(made.known):
+        run.tally.fault("%s of a file has another verdict or list" % kind)
+    ask(run, converting.Made(kind, data, known))
+
+
+def said(known):
+    """The verdict of an accepted file and, where it is convertible, its list."""
+    answer = known.verdict()
+    return answer, known.terms() if answer[0] == "convertible" else None
 
 
 def with_stack(size, ask):

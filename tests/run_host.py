@@ -6,24 +6,31 @@ The last line printed is `N passed, M failed`; the exit status is 0 only where M
 """
 
 import os
+import random
 import subprocess
 import sys
 import tempfile
 
 import brute
 import comparing
+import files
 import make_examples
 import stored
 
 ROOT = os.path.join(os.path.dirname(os.path.abspath(__file__)), os.pardir)
 SECONDS_FOR_FILE = 60
 
-# What the host prints for 01's cases, and its exit status.
+# What the host prints for 01's cases and for files beside them, and its exit status.
 WRITTEN = {
     "a.house": ("convertible, a list of 7 bytes\nlist 01 00 01 00 02 00 00\npermits 0 2\n", 0),
+    "a2.house": ("convertible, a list of 7 bytes\nlist 01 00 01 00 02 00 00\npermits 0 2\n", 0),
     "b.house": ("not convertible: pair 0 1 has the rival 1 2\n", 0),
     "c.house": ("not convertible: pair 2 0 has no word\n", 0),
     "refused.house": ("refused 4\n", 1),
+    "owner.house": ("refused 15\n", 1),
+    "longest.house": ("convertible, a list of 6 bytes\nlist 01 00 01 00 01 00\n" + "".join(
+        "permits %d %d\n" % (u, v) for u in range(32) for v in range(32) if u != v), 0),
+    "longer.house": ("refused 1\n", 1),
     "empty.house": ("refused 1\n", 1),
     "long.house": ("refused 1\n", 1),
     "missing.house": ("", 2),
@@ -49,8 +56,11 @@ def compile_host(archive, folder):
 def write_files(folder):
     """Copies of the stored examples and some files that are refused; returns what is expected of each."""
     expected = dict(WRITTEN)
+    longest = files.full_draft(random.Random(1), 0, 31, 2).bytes()
     written = {"refused.house": stored.case_file("A with record 2's next 01 00"), "empty.house": b"",
-               "long.house": stored.case_file("A") + bytes(40000)}
+               "owner.house": stored.case_file("A in edition 2 with record 1's owner 01"),
+               "longest.house": longest, "longer.house": longest + b"\0",
+               "long.house": stored.case_file("A") + bytes(50000)}
     for name, made in make_examples.examples().items():
         with open(os.path.join(ROOT, "examples", name), "rb") as example:
             written[name] = example.read()

@@ -22,7 +22,7 @@ import script
 
 SMALL_FILES = 9000
 SPARSE_FILES = 600
-DAMAGED_FILES = 2600
+DAMAGED_FILES = 3400
 WALKED_FILES = 1500
 MOST_PATHS = 1200         # about how many paths a pair of a small file may have
 MOST_WORDS_WALKED = 200   # over all pairs of a file whose pairs are walked
@@ -324,6 +324,7 @@ def add_walks(collection):
                 walk(collection, data, known, pair)
             walked += 1
             collection.account["files walked in language %d" % known.house.language] += 1
+            collection.account["files walked in edition %d" % known.edition] += 1
     collection.account["files walked"] = walked
 
 
@@ -352,7 +353,7 @@ def occurrences(known, asked, reply, word):
             found += faults(known, asked, word)
     else:
         kind = "none" if len(reply) == 1 else "found"
-        found += [kind, "%s in language %d" % (kind, known.house.language)]
+        found += [kind, "%s in language %d" % (kind, known.house.language), "%s in edition %d" % (kind, known.edition)]
         if asked.room == (len(word) + 1 if asked.call == PATH else NEXT_ROOM):
             found.append("output just long enough")
         if len(word) >= known.house.n:
@@ -361,6 +362,11 @@ def occurrences(known, asked, reply, word):
         found += path_occurrences(known, asked, word) if asked.call == PATH \
             else next_word_occurrences(listed, reply, word)
     return ["%s: %s" % (name, what) for what in found]
+
+
+def large_occurrences(cases):
+    """The names of what occurs in the frames of the larger files."""
+    return ["larger files: frames of edition %d" % script.parts_of(case.frame).data[0] for case in cases]
 
 
 def faults(known, asked, word):
@@ -478,8 +484,12 @@ DEMANDS = {
 DEMANDS.update({"path: %d parties" % k: 1000 for k in range(2, 6)})
 DEMANDS.update({"path: 6 parties": 500, "path: 7 parties": 20, "path: 8 parties": 10})
 DEMANDS.update({"files walked in language %d" % language: 200 for language in range(4)})
+DEMANDS.update({"files walked in edition %d" % edition: 500 for edition in files.EDITIONS})
+DEMANDS.update({"larger files: frames of edition %d" % edition: 1000 for edition in files.EDITIONS})
 for call in ("path", "next-word"):
-    DEMANDS.update({"%s: refused %d" % (call, number): 100 for number in range(1, 9)})
+    DEMANDS.update({"%s: refused %d" % (call, number): 100 for number in brute.FILE_REFUSALS})
+    DEMANDS.update({"%s: %s in edition %d" % (call, kind, edition): 5000
+                    for kind in ("found", "none") for edition in files.EDITIONS})
     DEMANDS.update({"%s: %s in language %d" % (call, kind, language): 1000
                     for kind in ("found", "none") for language in range(4)})
     DEMANDS.update({"%s: %s" % (call, fault): 100 for fault in (
@@ -532,6 +542,7 @@ def collect():
 def prepare():
     collection = collect()
     large_cases = large.cases(random.Random(404))
+    collection.account.update(large_occurrences(large_cases))
     text = "%d different files, %d frames, and %d frames of larger files\n" % (
         len(collection.files), len(collection.cases), len(large_cases))
     return comparing.Prepared([(collection.cases, None), (large_cases, STACK)],

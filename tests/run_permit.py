@@ -15,6 +15,7 @@ from collections import Counter
 
 import brute
 import comparing
+import files
 import run_paths
 import script
 
@@ -401,6 +402,7 @@ def permit_occurrences(known, pair, listed, reply):
     if fault:
         return found + [fault] + (["broken after a term that permits"] if any(met) else [])
     found += sizes(listed, terms) + ["%s in language %d" % (reply[0], known.house.language)]
+    found.append("%s in edition %d" % (reply[0], known.edition))
     found.append("%s at D %d" % (reply[0], known.house.longest))
     if any(met):
         first = met.index(True)
@@ -423,7 +425,7 @@ def text_occurrences(known, listed, reply):
     """The names of what occurs in a text case."""
     if reply[0] == "refused":
         return ["frames", "refused %d" % reply[1]] + (["file refused"] if known.refusal else [])
-    return ["frames", "texts"] + sizes(listed, known.decoded(listed))
+    return ["frames", "texts", "texts in edition %d" % known.edition] + sizes(listed, known.decoded(listed))
 
 
 def sizes(listed, terms):
@@ -456,12 +458,15 @@ DEMANDS.update({"permit: " + fault: 300 for fault in (
     "a word of length 0", "a word longer than D", "cut short in a word", "a label too high",
     "a kind not of the language")})
 for name in ("permit", "text"):
-    DEMANDS.update({"%s: refused %d" % (name, number): 20 for number in range(1, 9)})
+    DEMANDS.update({"%s: refused %d" % (name, number): 20 for number in brute.FILE_REFUSALS})
     DEMANDS.update({"%s: the empty list" % name: 100, "%s: ten terms or more" % name: 200,
                     "%s: 256 terms or more" % name: 20, "%s: a term of 256 words or more" % name: 20,
                     "%s: a list of 20,000 bytes" % name: 5})
 DEMANDS.update({"permit: %s in language %d" % (answer, language): 500
                 for answer in ("yes", "no") for language in range(4)})
+DEMANDS.update({"permit: %s in edition %d" % (answer, edition): 1500
+                for answer in ("yes", "no") for edition in files.EDITIONS})
+DEMANDS.update({"text: texts in edition %d" % edition: 1500 for edition in files.EDITIONS})
 DEMANDS.update({"permit: %s at D %d" % (answer, longest): 100
                 for answer in ("yes", "no") for longest in (1, 2, 3, 4, 5, 6, 31)})
 

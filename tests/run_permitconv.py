@@ -2,8 +2,8 @@
 
     python3 tests/run_permitconv.py PATH_OF_PERMITCONV_BINARY
 
-The files are those of converting.py, the examples, some of large_console.py, and
-inputs about as long as the program reads. Then streams.py tries standard input
+The files are those of converting.py, some of them in both editions, the examples,
+some of large_console.py, and inputs about as long as the program reads. Then streams.py tries standard input
 and output that fail or are slow. The seeds are fixed. The last line printed is
 `N passed, M failed`: N counts files and trials; M counts these and, beside them,
 demands on the set of files that are not met. The exit status is 0 only where M
@@ -29,12 +29,14 @@ import streams
 GRAPHS = 450
 WIDE_GRAPHS = 15
 DAMAGED_FILES = 500
+AGAIN_EVERY = 10            # of the files, one is tried in the other edition too
 SECONDS_FOR_FILE = 300
 REFUSED = "A with record 2's next 01 00"
 
-# What 01 prints itself.
+# What 01 prints itself, and what 02 says of owners.
 WRITTEN = [("A", "convertible 7\n00.00\n"), ("B", "not-convertible 0 1 rival 1 2\n"),
-           ("C", "not-convertible 2 0 no-word\n"), (REFUSED, "refused 4\n")]
+           ("C", "not-convertible 2 0 no-word\n"), (REFUSED, "refused 4\n"),
+           ("A in edition 2", "convertible 7\n00.00\n"), ("A in edition 2 with record 1's owner 01", "refused 15\n")]
 
 
 # ------------------------------------------------------------------ the files
@@ -50,28 +52,34 @@ def text_of_row(row):
 
 
 def about_the_longest(rng):
-    """The longest legal file, and inputs that go on after it or after a shorter one. A longer input is
-    cut to 35,785 bytes, and so has no legal length; its header is looked at first."""
-    whole = files.full_draft(rng, 0, 31).bytes()
-    yield "the longest legal file", whole, "convertible 6\n00\n"
-    for more in (1, 2, 3, 4, 5000, 100000):
-        yield "longer than 35,784", whole + rng.randbytes(more), "refused 1\n"
-    yield "longer than 35,784", b"\2" + whole[1:] + b"\0\0", "refused 2\n"
-    for letter in "ABC":
-        data = stored.case_file(letter)
-        yield "longer than 35,784", data + bytes(brute.PROGRAM_INPUT), "refused 1\n"
-    yield "longer than 35,784", bytes(brute.PROGRAM_INPUT + 1), "refused 2\n"
+    """The longest legal file of each edition, and inputs that go on after it or after a shorter one. A longer
+    input is cut to 44,713 bytes, and so has no legal length; its header is looked at first."""
+    for edition in files.EDITIONS:
+        whole = files.full_draft(rng, 0, 31, edition).bytes()
+        yield "the longest file of edition %d" % edition, whole, "convertible 6\n00\n"
+        for more in (1, 2, 3, 4, 5, files.LARGEST_R, 100000):
+            yield "longer than legal", whole + rng.randbytes(more), "refused 1\n"
+        yield "longer than legal", b"\3" + whole[1:] + b"\0\0", "refused 2\n"
+        other = bytes([files.other_edition(edition)]) + whole[1:]
+        yield "a header of the other edition", other, "refused 1\n"
+    for name in ("A", "B", "C", "A in edition 2"):
+        data = stored.case_file(name)
+        yield "longer than legal", data + bytes(brute.PROGRAM_INPUT), "refused 1\n"
+    yield "longer than legal", bytes(brute.PROGRAM_INPUT + 1), "refused 2\n"
     yield "the empty input", b"", "refused 1\n"
 
 
 def all_files(rng):
     """Every file: how it was made, its bytes, and the text that must be printed."""
     for name, text in WRITTEN:
-        yield "written in 01", stored.case_file(name), text
+        yield "written out", stored.case_file(name), text
     for data in make_examples.examples().values():
         yield "example", data, brute.permitconv(data)
-    for made in converting.drawn(rng, GRAPHS, WIDE_GRAPHS, DAMAGED_FILES):
-        yield made.kind, made.data, brute.program_text(made.known)
+    for number, made in enumerate(converting.drawn(rng, GRAPHS, WIDE_GRAPHS, DAMAGED_FILES)):
+        text = brute.program_text(made.known)
+        yield made.kind, made.data, text
+        if number % AGAIN_EVERY == 0 and not made.known.refusal:
+            yield "the other edition", converting.in_other_edition(rng, made), text
     for row in large_console.table():
         yield "larger file", row.data, text_of_row(row)
     yield from about_the_longest(rng)
@@ -79,12 +87,13 @@ def all_files(rng):
 
 # -------------------------------------------------------- what is demanded
 
-def occurrences(kind, text):
-    """The names of what occurs in a file's text."""
+def occurrences(kind, data, text):
+    """The names of what occurs in a file and its text."""
     lines = text.splitlines()
     parts = lines[0].split()
     first = parts[0] if parts[0] == "convertible" else parts[0] + " " + parts[1] if parts[0] == "refused" else parts[3]
-    found = ["files", kind, first]
+    found = ["files", kind, first] + length_names(len(data))
+    found += ["%s in edition %d" % (first, data[0])] if parts[0] != "refused" else []
     if first == "convertible":
         found += ["no terms"] if len(lines) == 1 else ["several terms"] if len(lines) > 2 else []
         found += ["several words in a term"] if " & " in text else []
@@ -95,15 +104,26 @@ def occurrences(kind, text):
     return found
 
 
+def length_names(length):
+    """What is special in the length of an input."""
+    special = {"input of 44,712 bytes": length == 44712, "input of 44,713 bytes": length == 44713,
+               "input above 44,713 bytes": length > 44713}
+    return [name for name, is_so in special.items() if is_so]
+
+
 # The least number of times that each must occur.
 DEMANDS = {
     "files": 1500, "convertible": 500, "no-word": 100, "rival": 200,
     "rules": 300, "one pair changed": 300, "random permits": 300, "damaged": 400, "one party": 10,
     "no terms": 50, "several terms": 100, "several words in a term": 100, "several symbols in a word": 100,
-    "a list of 65,536 bytes": 1, "a list above 65,536 bytes": 1, "a text above 4,096 bytes": 3, "written in 01": 4, "example": 4,
-    "larger file": 40, "longer than 35,784": 10, "the longest legal file": 1, "the empty input": 1,
+    "a list of 65,536 bytes": 1, "a list above 65,536 bytes": 1, "a text above 4,096 bytes": 3, "written out": 6, "example": 5,
+    "larger file": 40, "the other edition": 100, "longer than legal": 20, "the empty input": 1, "a header of the other edition": 2,
+    "the longest file of edition 1": 1, "the longest file of edition 2": 1,
+    "input of 44,712 bytes": 2, "input of 44,713 bytes": 1, "input above 44,713 bytes": 5,
 }
-DEMANDS.update({"refused %d" % number: 10 for number in range(1, 9)})
+DEMANDS.update({"refused %d" % number: 10 for number in brute.FILE_REFUSALS})
+DEMANDS.update({"%s in edition %d" % (what, edition): fewest for edition in files.EDITIONS
+                for what, fewest in (("convertible", 200), ("no-word", 40), ("rival", 80))})
 
 
 # ------------------------------------------------------------------- the run
@@ -127,9 +147,13 @@ def hold(tally, binary, kind, data, text):
         "  expected: %r" % text[:400], "  printed:  %r" % found[:400]))
 
 
+# The kinds of files that are given in pieces.
+STREAMED = ("written out", "example", "longer than legal", "the longest file of edition 1", "the longest file of edition 2")
+
+
 def hold_streams(tally, binary, made):
     """The trials of streams.py, with files of those made before."""
-    whole = [(data, text) for kind, data, text in made if kind in ("written in 01", "example", "longer than 35,784", "the longest legal file")]
+    whole = [(data, text) for kind, data, text in made if kind in STREAMED]
     beyond = [min(((data, text) for _, data, text in made if len(text) > room), key=lambda pair: len(pair[1]), default=None)
               for room in (streams.SMALL_PIPE, streams.USUAL_PIPE)]
     if not whole or None in beyond:
@@ -154,7 +178,7 @@ def main(arguments):
     made = list(all_files(random.Random(808)))
     for kind, data, text in made:
         hold(tally, binary, kind, data, text)
-        account.update(occurrences(kind, text))
+        account.update(occurrences(kind, data, text))
         different.add(data)
     account["different files"] = len(different)
     hold_streams(tally, binary, made)

@@ -2,12 +2,13 @@
 
     python3 tests/run_write.py PATH_OF_CASES_BINARY
 
-Each matter is laid out in three random orders, whose copies must be equal. The
-copy is written again and must stay as it is; the matter with one thing changed
-must have another copy. Outputs are of the copy's length, longer or too short;
-they have random old bytes and random guard bytes on both sides. The other calls
-are asked about some small files and, with the same arguments, about their copies;
-the lines must be the same. The seeds are fixed, so each run has the same frames.
+Each matter is laid out in three random orders, in both editions, whose copies
+must be equal. The copy is written again and must stay as it is; the matter with
+one thing changed must have another copy. Outputs are of the copy's length, longer
+or too short; they have random old bytes and random guard bytes on both sides. The
+other calls are asked about some small files of edition 1 and, with the same
+arguments, about files of edition 2 with the same matter and about the copies; the
+lines must be the same. The seeds are fixed, so each run has the same frames.
 The last line printed is `N passed, M failed`: N counts frames; M counts frames
 and, beside them, demands on the set of frames that are not met. The exit status
 is 0 only where M is 0.
@@ -15,6 +16,7 @@ is 0 only where M is 0.
 
 import random
 import sys
+from itertools import product
 
 import brute
 import comparing
@@ -31,9 +33,9 @@ DAMAGED_FILES = 2500
 TWICE_DAMAGED_FILES = 600
 ASKED_FILES = 300
 ASKED_PATHS = 150         # about how many paths a pair may have in a file that other calls are asked about
-ORDERS = 3
+ORDERS = (1, 2, None)     # the editions in which a matter is laid out; None is either
 CHANGES_OF_MATTER = 2
-LONGEST_FILE = 35784
+LONGEST_COPY = files.LONGEST_FILES[2]
 LONGEST_CHAIN = 279
 
 
@@ -117,17 +119,22 @@ class Collection(run_paths.Collection):
         """A case on an accepted file with an output that is long enough. Returns the copy."""
         if more is None:
             more = self.rng.choice([0, 0, 1, self.rng.randint(2, 60)])
-        reply, after = self.add(data, len(data) + more)
-        self.demand(reply == ("length", len(data)), "a file of %d bytes has the reply %s %d" % (len(data), *reply))
+        length = files.length_in(2, data)
+        reply, after = self.add(data, length + more)
+        self.demand(reply == ("length", length), "a copy of %d bytes has the reply %s %d" % (length, *reply))
         self.account["files: accepted and new"] += data not in self.files
         self.files.add(data)
         return after[:reply[1]]
 
     def add_short(self, data):
-        """Cases with an output that is too short: none, one byte short, or something between."""
-        self.add(data, self.rng.choice([0, len(data) - 1]))
+        """Cases with an output that is too short: none, one byte short, or something between. In edition 1
+        the file's own length is one of these, where it has records."""
+        length = files.length_in(2, data)
+        self.add(data, self.rng.choice([0, length - 1]))
+        if len(data) < length:
+            self.add(data, len(data))
         if self.rng.random() < 0.3:
-            self.add(data, self.rng.choice([8, 8 + 2 * data[1] - 1, self.rng.randrange(len(data))]))
+            self.add(data, self.rng.choice([8, 8 + 2 * data[1] - 1, self.rng.randrange(length)]))
 
     def demand(self, is_met, line):
         """What must hold of the reckoned copies."""
@@ -138,7 +145,7 @@ class Collection(run_paths.Collection):
 def add_matter(collection, matter):
     """The matter in three orders, a copy that is written again, and the matter with some changes."""
     rng, account = collection.rng, collection.account
-    orders = [files.lay_out(matter, rng).bytes() for _ in range(ORDERS)]
+    orders = [files.lay_out(matter, rng, edition).bytes() for edition in ORDERS]
     copies = [collection.copy_of(data) for data in orders]
     collection.demand(len(set(copies)) == 1, "three orders of one matter have different copies")
     collection.demand(collection.copy_of(copies[0]) == copies[0], "a copy that is written again changes")
@@ -188,23 +195,27 @@ def add_damaged(collection):
 
 
 def add_longest(collection):
-    """The longest file in every language, with each length of output, and with faults at its end."""
+    """The longest file of each edition in every language, with each length of output, and with faults at its end."""
     rng = collection.rng
-    for language in range(4):
-        data = files.full_draft(rng, language, rng.randint(1, 31)).bytes()
-        add_file(collection, data)
-        for more in (0, 1, script.LONGEST_COPY_OUTPUT - len(data)):
+    for language, edition in product(range(4), files.EDITIONS):
+        data = files.full_draft(rng, language, rng.randint(1, 31), edition).bytes()
+        for more in (0, 1, script.LONGEST_COPY_OUTPUT - LONGEST_COPY):
             collection.copy_of(data, more)
-        for room in (len(data) - 1, 0):
+        for room in (LONGEST_COPY - 1, files.LONGEST_FILES[1], 0):
             collection.add(data, room)
-    for data in files.full_files_with_fault_at_end(rng):
-        add_file(collection, data)
+        if edition == 1:
+            add_file(collection, data)
+    for edition in files.EDITIONS:
+        for data in files.full_files_with_fault_at_end(rng, edition):
+            add_file(collection, data)
 
 
-# ------------------------------------------- other calls on a file and its copy
+# ------------------------------------------- other calls on files of one matter
 
-# How the names of what occurs on copies begin; only a copy that differs from its file counts.
-UNLIKE = "a copy unlike its file: "
+# How the names begin of what occurs on a file of edition 2 whose matter is that of one of edition 1, and on
+# copies; a copy counts only where it is neither of the two files.
+OTHER_EDITION = "the same matter in edition 2: "
+UNLIKE = "a copy unlike its files: "
 
 
 def calls_on(rng, data, known):
@@ -220,36 +231,39 @@ def calls_on(rng, data, known):
     return [script.Case(frame, stored.reckoned(frame)) for frame in checks] + words.cases + lists.cases
 
 
-def asked_again(case, copy, known):
-    """The same call with the same arguments about the copy; known is of the copy's own bytes."""
-    frame = script.frame_of(script.parts_of(case.frame)._replace(data=copy))
+def asked_again(case, data, known):
+    """The same call with the same arguments about another file; known is of this file's own bytes."""
+    frame = script.frame_of(script.parts_of(case.frame)._replace(data=data))
     return script.Case(frame, stored.reckoned(frame, known))
 
 
-def add_both(collection, case, copy, known):
-    """A case on a file, and the same on its copy; both have the same lines."""
-    again = asked_again(case, copy, known)
-    collection.cases += [case, again]
-    collection.demand(again.text == case.text, "a copy has another answer than its file: " + answer_name(case.text))
-    if script.parts_of(case.frame).data != copy:
-        collection.account[UNLIKE + answer_name(again.text)] += 1
+def add_again(collection, case, name, data, known):
+    """A case once more, about another file with the same matter; both have the same lines."""
+    again = asked_again(case, data, known)
+    collection.cases.append(again)
+    collection.demand(again.text == case.text, "another answer for " + name + answer_name(case.text))
+    collection.account[name + answer_name(again.text)] += 1
 
 
-def ask_both(collection, matter):
-    """The other calls on a file of this matter and on its copy."""
-    data, known = run_permit.known_file(collection.rng, matter)
-    copy = collection.copy_of(data)
-    known_copy = brute.Known(copy)
-    for case in calls_on(collection.rng, data, known):
-        add_both(collection, case, copy, known_copy)
-    if data != copy:
-        collection.account[UNLIKE + "files in language %d" % matter.language] += 1
+def ask_all(collection, matter):
+    """The other calls on a file of this matter in edition 1, on one in edition 2, and on their copy."""
+    one, other = (files.lay_out(matter, collection.rng, edition).bytes() for edition in files.EDITIONS)
+    copy = collection.copy_of(one)
+    collection.demand(collection.copy_of(other) == copy, "two editions of one matter have different copies")
+    asked_about = [(OTHER_EDITION, other, brute.Known(other))]
+    if copy not in (one, other):
+        asked_about.append((UNLIKE, copy, brute.Known(copy)))
+    for case in calls_on(collection.rng, one, brute.Known(one)):
+        collection.cases.append(case)
+        for about in asked_about:
+            add_again(collection, case, *about)
+    collection.account.update(name + "files in language %d" % matter.language for name, _, _ in asked_about)
 
 
 def add_asked(collection):
     """Small matters, about which the other calls are asked."""
     for _ in range(ASKED_FILES):
-        ask_both(collection, run_permit.with_pairs(collection.rng, ASKED_PATHS))
+        ask_all(collection, run_permit.with_pairs(collection.rng, ASKED_PATHS))
 
 
 # -------------------------------------------------------- what is demanded
@@ -261,23 +275,32 @@ def answer_name(text):
     return line if answer in ("accepted", "refused", "none", "yes", "no") else name + " found"
 
 
-def room_name(data, room):
-    """How long the output is beside the file; a copy has the file's length."""
-    names = {0: "no output", len(data) - 1: "output one byte short", len(data): "output of the file's length"}
-    return names.get(room, "output longer" if room > len(data) else "output shorter by more")
+def room_name(length, room):
+    """How long the output is beside a length: the copy's, or that of a refused file."""
+    names = {0: "no output", length - 1: "output one byte short", length: "output of just that length"}
+    return names.get(room, "output longer" if room > length else "output shorter by more")
 
 
 def occurrences(data, room, reply):
     """The names of what occurs in a case."""
-    found, lent = ["frames"], room_name(data, room)
+    if reply[0] == "refused" and reply[1] != 14:
+        return ["frames", "refused %d" % reply[1], "file refused, " + room_name(len(data), room)]
+    edition, lent = data[0], room_name(files.length_in(2, data), room)
+    found = ["frames", lent]
+    if len(data) == files.LONGEST_FILES[edition]:
+        found.append("the longest file of edition %d, %s" % (edition, lent))
     if reply[0] == "length":
-        is_copy = data == brute.canonical(brute.decode(data))
-        found += ["written in language %d" % data[3], "the file is its copy" if is_copy else "records are moved"]
-    else:
-        found.append("refused %d" % reply[1])
-        if reply[1] != 14:
-            return found + ["file refused, " + lent]
-    return found + [lent] + (["the longest file, " + lent] if len(data) == LONGEST_FILE else [])
+        return found + ["written in language %d" % data[3], "written of edition %d" % edition, moved_name(data)]
+    return found + ["refused 14"] + (["output of the file's length is short"] if room == len(data) else [])
+
+
+def moved_name(data):
+    """What the copy of an accepted file changes."""
+    copy = brute.canonical(brute.decode(data))
+    if copy == data:
+        return "the file is its copy"
+    in_order = files.in_edition_1(copy) == files.in_edition_1(data)
+    return "owners are added" if in_order else "records are moved in edition %d" % data[0]
 
 
 def features(matter):
@@ -312,7 +335,9 @@ def features(matter):
 
 def order_names(orders, copy):
     """What is special in the files that one matter is laid out in, beside its copy."""
-    special = {"three different orders": len({*orders}) == ORDERS, "no order is the copy's": copy not in orders}
+    shapes = [files.in_edition_1(data) for data in orders]
+    special = {"three different orders": len({*shapes}) == 3, "no order is the copy's": files.in_edition_1(copy) not in shapes,
+               "orders in both editions": {data[0] for data in orders} == {1, 2}}
     return [name for name, is_there in special.items() if is_there]
 
 
@@ -320,14 +345,14 @@ def order_names(orders, copy):
 DEMANDS = {
     "files: accepted and new": 15000,
     "write: frames": 30000, "write: refused 14": 500,
-    "write: output of the file's length": 5000, "write: output longer": 5000,
+    "write: output of just that length": 5000, "write: output longer": 5000,
     "write: output one byte short": 2000, "write: no output": 2000, "write: output shorter by more": 500,
-    "write: file refused, output of the file's length": 500, "write: file refused, output longer": 500,
+    "write: output of the file's length is short": 2000,
+    "write: file refused, output of just that length": 500, "write: file refused, output longer": 500,
     "write: file refused, output one byte short": 500, "write: file refused, no output": 500,
-    "write: records are moved": 10000, "write: the file is its copy": 5000,
-    "write: the longest file, output of the file's length": 4, "write: the longest file, output longer": 4,
-    "write: the longest file, output one byte short": 4, "write: the longest file, no output": 4,
+    "write: the file is its copy": 5000, "write: owners are added": 500,
     "matter: any": 5000, "matter: three different orders": 4000, "matter: no order is the copy's": 4000,
+    "matter: orders in both editions": 5000,
     "matter: n 1": 200, "matter: n 32": 20, "matter: no records": 200,
     "matter: no records for several parties": 50,
     "matter: an empty chain between full ones": 1000, "matter: an empty chain before all full ones": 500,
@@ -341,15 +366,20 @@ DEMANDS = {
 
 # The same number of times for each name of a row.
 for fewest, names in (
-        (30, ["write: refused %d" % number for number in range(1, 9)]),
+        (30, ["write: refused %d" % number for number in brute.FILE_REFUSALS]),
+        (5000, ["write: records are moved in edition %d" % edition for edition in files.EDITIONS]),
+        (8000, ["write: written of edition %d" % edition for edition in files.EDITIONS]),
+        (4, ["write: the longest file of edition %d, %s" % (edition, room) for edition in files.EDITIONS for room in (
+            "output of just that length", "output longer", "output one byte short", "output shorter by more", "no output")]),
         (3000, ["write: written in language %d" % language for language in range(4)]),
         (1000, ["changed: " + name for name in CHANGES]),
-        (200, [UNLIKE + answer for answer in ("check accepted", "decode found", "path found", "path none",
-                                              "next-word found", "next-word none", "permit yes", "permit no")]),
-        (100, [UNLIKE + "text found"]),
-        (20, [UNLIKE + "%s refused %d" % (name, number) for name in ("path", "next-word") for number in (10, 11, 14)]),
-        (20, [UNLIKE + "permit refused %d" % number for number in (9, 10)]),
-        (20, [UNLIKE + "files in language %d" % language for language in range(4)])):
+        (200, [name + answer for name in (OTHER_EDITION, UNLIKE) for answer in (
+            "check accepted", "decode found", "path found", "path none",
+            "next-word found", "next-word none", "permit yes", "permit no")]),
+        (100, [name + "text found" for name in (OTHER_EDITION, UNLIKE)]),
+        (20, [name + "%s refused %d" % refused for name in (OTHER_EDITION, UNLIKE) for refused in (
+            *product(("path", "next-word"), (10, 11, 14)), ("permit", 9), ("permit", 10))]),
+        (20, [name + "files in language %d" % language for name in (OTHER_EDITION, UNLIKE) for language in range(4)])):
     DEMANDS.update(dict.fromkeys(names, fewest))
 
 

@@ -1,4 +1,4 @@
-"""Tests of the test side itself: brute.py is held to the text of document 01 and of Ticket 1.
+"""Tests of the test side itself: brute.py is held to the text of document 01 and of Tickets 1 and 2.
 
     python3 -m unittest discover -s tests        (or: python3 tests/test_brute.py)
 """
@@ -16,6 +16,7 @@ import brute
 import comparing
 import files
 import large
+import run_cases
 import run_paths
 import run_permit
 import run_write
@@ -83,22 +84,27 @@ SCRATCH = {"A": [2], "E": [], "F": [1, 34], "G": [64], "H": [1], "J": [32]}
 
 class TenCases(unittest.TestCase):
 
+    LENGTH_OF_A = 26
+
+    def file(self, letter):
+        return stored.case_file(letter)
+
     def test_files_are_accepted(self):
         for letter in CASES:
-            self.assertEqual(brute.call_check(stored.case_file(letter)), ("accepted",), letter)
+            self.assertEqual(brute.call_check(self.file(letter)), ("accepted",), letter)
 
-    def test_a_is_the_file_of_26_bytes(self):
-        self.assertEqual(len(stored.case_file("A")), 26)
+    def test_the_length_of_a(self):
+        self.assertEqual(len(self.file("A")), self.LENGTH_OF_A)
 
     def test_verdicts(self):
         for letter in CASES:
-            self.assertEqual(brute.call_verdict(stored.case_file(letter)), VERDICTS[letter], letter)
+            self.assertEqual(brute.call_verdict(self.file(letter)), VERDICTS[letter], letter)
 
     def test_mined_lists(self):
         for letter, text in LISTS.items():
             listed = hexadecimal(text)
             reply, scratch, output = brute.call_mining(
-                stored.case_file(letter), b"\xAA" * 1030, b"\xBB" * 20)
+                self.file(letter), b"\xAA" * 1030, b"\xBB" * 20)
             self.assertEqual(reply, ("length", len(listed)), letter)
             self.assertEqual(output, listed + b"\xBB" * (20 - len(listed)), letter)
             ones = [at for at in range(1024) if scratch[at] == 1]
@@ -110,39 +116,136 @@ class TenCases(unittest.TestCase):
         for letter, text in LISTS.items():
             listed = hexadecimal(text)
             reply, _, output = brute.call_mining(
-                stored.case_file(letter), bytes(1024), b"\xBB" * len(listed))
+                self.file(letter), bytes(1024), b"\xBB" * len(listed))
             self.assertEqual((reply, output), (("length", len(listed)), listed), letter)
 
     def test_others_are_refused_13(self):
         for letter in CASES:
             if letter not in LISTS:
-                self.assertEqual(brute.call_mining(stored.case_file(letter), b"\xAA" * 1024, b""),
+                self.assertEqual(brute.call_mining(self.file(letter), b"\xAA" * 1024, b""),
                                  (("refused", 13), b"\xAA" * 1024, b""), letter)
 
     def test_permit_of_each_list(self):
         for letter, text in LISTS.items():
-            house = brute.decode(stored.case_file(letter))
+            house = brute.decode(self.file(letter))
             for u, v in brute.pairs(house):
-                answer = brute.call_permit(stored.case_file(letter), hexadecimal(text), u, v)
+                answer = brute.call_permit(self.file(letter), hexadecimal(text), u, v)
                 wanted = ("yes",) if (u, v) in house.permits else ("no",)
                 self.assertEqual(answer, wanted, (letter, u, v))
 
     def test_permitconv(self):
         for letter in CASES:
-            self.assertEqual(brute.permitconv(stored.case_file(letter)), TEXTS[letter], letter)
+            self.assertEqual(brute.permitconv(self.file(letter)), TEXTS[letter], letter)
 
     def test_permitconv_refused(self):
-        data = stored.case_file("A")
-        self.assertEqual(brute.permitconv(data[:20] + b"\x01\x00" + data[22:]), "refused 4\n")
-        self.assertEqual(brute.permitconv(data + bytes(40000)), "refused 1\n")
+        self.assertEqual(brute.permitconv(stored.case_file("A with record 2's next 01 00")), "refused 4\n")
+        self.assertEqual(brute.permitconv(self.file("A") + bytes(50000)), "refused 1\n")
+        self.assertEqual(brute.permitconv(b"\3" + self.file("A")[1:] + bytes(50000)), "refused 2\n")
 
     def test_permitconv_list_too_long(self):
-        self.assertEqual(brute.permitconv(stored.case_file("A"), room=7), "convertible 7\n00.00\n")
-        self.assertEqual(brute.permitconv(stored.case_file("A"), room=6), "convertible 7\nrefused 14\n")
+        self.assertEqual(brute.permitconv(self.file("A"), room=7), "convertible 7\n00.00\n")
+        self.assertEqual(brute.permitconv(self.file("A"), room=6), "convertible 7\nrefused 14\n")
 
     def test_permitconv_two_terms(self):
         data = file_with(3, [(0, 1, 0), (1, 2, 1)], [(0, 1), (1, 2)], labels=2, longest=1)
         self.assertEqual(brute.permitconv(data), "convertible 10\n00\n04\n")
+
+
+class TenCasesInEdition2(TenCases):
+    """02: verdicts and mined lists are those of the same matter in edition 1. A's file has 8 + 6 + 15 bytes."""
+
+    LENGTH_OF_A = 29
+
+    def file(self, letter):
+        made = files.lay_out(brute.decode(stored.case_file(letter)), random.Random(7), 2).bytes()
+        self.assertEqual(made[0], 2)
+        return made
+
+
+# Changes of A in edition 2: the place that is changed, its new byte, and the numbers that hold at the first
+# fault, the refusal first. Records stand at 14, 19 and 24, of parties 0, 0 and 1; the heads stand at 8, 10, 12.
+FIRST_FAULTS = [
+    (18, 1, [15]), (23, 1, [15]), (23, 2, [15]), (23, 3, [15]), (23, 255, [15]), (28, 0, [15]), (28, 2, [15]), (28, 3, [15]),
+    (10, 1, [4, 15, 6]),     # record 1 of party 0 goes to party 1
+    (10, 2, [4, 15]),
+    (12, 3, [4, 15, 6]),     # record 3 of party 1 goes to party 2
+    (10, 4, [3]), (26, 4, [3]), (26, 3, [4, 8]), (10, 0, [5]),
+    (24, 1, [6]), (24, 3, [6]), (25, 1, [7]), (19, 0, [6]), (20, 1, [7]),
+    (8, 3, [15]),            # record 3 of party 1 stands first in party 0's chain
+    (8, 0, [5]), (16, 0, [5]), (16, 3, [15]),
+    (0, 1, 1), (0, 3, 2), (0, 0, 2), (0, 255, 2), (6, 2, 1), (6, 4, 1),
+]
+
+# Two changes of A in edition 2, and the same.
+TWO_CHANGES = [
+    ((28, 0), (24, 3), [15, 6]), ((28, 0), (24, 1), [15, 6]), ((28, 3), (25, 1), [15, 7]), ((18, 2), (15, 1), [15, 7]),
+    ((10, 0), (28, 2), [5]), ((10, 0), (28, 255), [5]), ((28, 0), (26, 9), [15]), ((14, 3), (28, 0), [6]),
+    ((14, 3), (18, 3), [15, 6]), ((0, 3), (6, 4), 2),
+]
+
+
+class Owners(unittest.TestCase):
+    """02's refusal 15, after 4 and before 6."""
+
+    A2 = hexadecimal("02 03 01 00 02 00 03 00  01 00 03 00 00 00  01 00 02 00 00  02 FF 00 00 00  02 00 00 00 01")
+
+    def changed(self, *changes):
+        data = bytearray(self.A2)
+        for at, new in changes:
+            data[at] = new
+        return bytes(data)
+
+    def faults(self, data, wanted):
+        """The refusal of a file, and where it is for its chains, all numbers that hold at the first fault."""
+        if isinstance(wanted, list):
+            self.assertEqual(brute.first_fault(data).numbers, wanted, data.hex(" "))
+            wanted = wanted[0]
+        self.assertEqual(brute.check(data), wanted, data.hex(" "))
+
+    def test_accepted(self):
+        self.assertEqual(brute.check(self.A2), 0)
+        self.assertIsNone(brute.first_fault(self.A2))
+        self.assertEqual(brute.decode(self.A2), brute.decode(stored.case_file("A")))
+
+    def test_one_change(self):
+        for at, new, wanted in FIRST_FAULTS:
+            self.faults(self.changed((at, new)), wanted)
+
+    def test_two_changes(self):
+        for one, other, wanted in TWO_CHANGES:
+            self.faults(self.changed(one, other), wanted)
+
+    def test_15_is_before_8(self):
+        # Record 2 becomes the relation (0,1) once more.
+        self.faults(self.changed((19, 1), (20, 0)), [8])
+        self.faults(self.changed((19, 1), (20, 0), (23, 1)), [15, 8])
+
+    def test_edition_1_has_no_owner(self):
+        self.assertIsNone(brute.owner_of(stored.case_file("A"), 1))
+        self.assertEqual([brute.owner_of(self.A2, number) for number in (1, 2, 3)], [0, 0, 1])
+        self.faults(hexadecimal("01 03 01 00 02 00 02 00  02 00 01 00 00 00  02 00 00 00  02 00 00 00"), 0)
+
+    def test_lengths(self):
+        for length in (0, 7, 8, 14, 26, 28):
+            self.assertEqual(brute.check(self.A2[:length]), 1, length)
+        self.assertEqual(brute.check(self.A2 + b"\0"), 1)
+        self.assertEqual(brute.check(b"\3" + self.A2[1:-1]), 2)
+        self.assertEqual(brute.check(b"\2" + stored.case_file("A")[1:]), 1)
+        self.assertEqual(brute.PROGRAM_INPUT, 8 + 2 * 32 + 5 * 8928 + 1)
+
+    def test_the_same_replies_in_both_editions(self):
+        rng = random.Random(61)
+        for _ in range(60):
+            matter = run_permit.with_pairs(rng, 60)
+            one, other = (brute.Known(files.lay_out(matter, rng, edition).bytes()) for edition in (1, 2))
+            self.assertEqual((one.edition, other.edition, one.house), (1, 2, other.house))
+            self.assertEqual(brute.program_text(one), brute.program_text(other))
+            self.assertEqual(brute.mining_reply(one, b"\7" * 1030, b"\7" * 3000), brute.mining_reply(other, b"\7" * 1030, b"\7" * 3000))
+            lister = run_permit.Lister(rng, one)
+            for asked in lister.calls(lister.some_pair()):
+                given = script.given_bytes(asked.length, asked.symbols)
+                lent = b"\7" * (asked.room + 32)
+                self.assertEqual(*(script.word_reply(asked.call, known, asked.first, asked.second, given, lent) for known in (one, other)))
 
 
 class RuledOut(unittest.TestCase):
@@ -327,6 +430,7 @@ class Mining(unittest.TestCase):
 class Writing(unittest.TestCase):
 
     A = "01 03 01 00 02 00 03 00  01 00 03 00 00 00  01 00 02 00  02 FF 00 00  02 00 00 00"
+    A2 = "02 03 01 00 02 00 03 00  01 00 03 00 00 00  01 00 02 00 00  02 FF 00 00 00  02 00 00 00 01"
 
     def becomes(self, data, text):
         """The copy of this file, reckoned by hand, and the copy of the copy."""
@@ -336,23 +440,25 @@ class Writing(unittest.TestCase):
             self.assertEqual(brute.write_reply(one, b"\xAA" * (len(copy) + 3)),
                              (("length", len(copy)), copy + b"\xAA" * 3))
 
-    def layout_of_a(self, numbers, permit_first):
+    def layout_of_a(self, numbers, permit_first, edition):
         """A's file with these numbers of the relation (0,1), the permit (0,2) and the relation (1,2)."""
         related, permit, other = numbers
         head, after_related, after_permit = (permit, 0, related) if permit_first else (related, permit, 0)
-        records = {related: "01 00 %02X 00" % after_related, permit: "02 FF %02X 00" % after_permit,
-                   other: "02 00 00 00"}
-        return hexadecimal("01 03 01 00 02 00 03 00  %02X 00 %02X 00 00 00" % (head, other)
+        owners = ("", "") if edition == 1 else (" 00", " 01")
+        records = {related: "01 00 %02X 00" % after_related + owners[0], permit: "02 FF %02X 00" % after_permit + owners[0],
+                   other: "02 00 00 00" + owners[1]}
+        return hexadecimal("%02X 03 01 00 02 00 03 00  %02X 00 %02X 00 00 00" % (edition, head, other)
                            + records[1] + records[2] + records[3])
 
     def test_every_order_of_a(self):
-        # Three records have six numberings, and party 0's chain of two has two orders.
-        layouts = [self.layout_of_a(numbers, permit_first)
+        # Three records have six numberings, party 0's chain of two has two orders, and there are two editions.
+        layouts = [self.layout_of_a(numbers, permit_first, edition)
                    for numbers in ((1, 2, 3), (1, 3, 2), (2, 1, 3), (2, 3, 1), (3, 1, 2), (3, 2, 1))
-                   for permit_first in (False, True)]
-        self.assertEqual(len(set(layouts)), 12)
+                   for permit_first in (False, True) for edition in (1, 2)]
+        self.assertEqual(len(set(layouts)), 24)
+        self.assertIn(hexadecimal(self.A2), layouts)
         for data in layouts:
-            self.becomes(data, self.A)
+            self.becomes(data, self.A2)
         header = "01 03 01 00 02 00 03 00"
         for rest in ("01 00 03 00 00 00  01 00 02 00  02 FF 00 00  02 00 00 00",
                      "02 00 03 00 00 00  01 00 00 00  02 FF 01 00  02 00 00 00",
@@ -364,72 +470,72 @@ class Writing(unittest.TestCase):
     def test_by_target_and_then_by_kind(self):
         # Party 3 has labels 0 and 7 and a permit to 0, then label 2 to 1; parties 1 and 2 have nothing.
         data = file_with(4, [(3, 1, 2), (3, 0, 7), (3, 0, 0)], [(3, 0), (0, 3)], labels=8, language=3)
-        self.becomes(data, "01 04 08 03 02 00 05 00  01 00 00 00 00 00 02 00"
-                           "  03 FF 00 00  00 00 03 00  00 07 04 00  00 FF 05 00  01 02 00 00")
+        self.becomes(data, "02 04 08 03 02 00 05 00  01 00 00 00 00 00 02 00"
+                           "  03 FF 00 00 00  00 00 03 00 03  00 07 04 00 03  00 FF 05 00 03  01 02 00 00 03")
 
     def test_empty_chains(self):
         self.becomes(file_with(5, [(1, 0, 0), (3, 0, 0)], [(3, 4)]),
-                     "01 05 01 00 02 00 03 00  00 00 01 00 00 00 02 00 00 00"
-                     "  00 00 00 00  00 00 03 00  04 FF 00 00")
-        self.becomes(file_with(2, []), "01 02 01 00 02 00 00 00  00 00 00 00")
-        self.becomes(file_with(1, []), "01 01 01 00 02 00 00 00  00 00")
+                     "02 05 01 00 02 00 03 00  00 00 01 00 00 00 02 00 00 00"
+                     "  00 00 00 00 01  00 00 03 00 03  04 FF 00 00 03")
+        self.becomes(file_with(2, []), "02 02 01 00 02 00 00 00  00 00 00 00")
+        self.becomes(file_with(1, []), "02 01 01 00 02 00 00 00  00 00")
 
     def test_nothing_is_tidied(self):
         self.becomes(file_with(2, [(1, 0, 1)], labels=8, language=2, longest=31),
-                     "01 02 08 02 1F 00 01 00  00 00 01 00  00 01 00 00")
+                     "02 02 08 02 1F 00 01 00  00 00 01 00  00 01 00 00 01")
 
     def test_numbers_of_two_bytes(self):
         # Party 0 has all that can be: 31 targets, each with 8 labels and a permit. Party 1 has one record.
         edges = [(0, v, label) for v in range(1, 32) for label in range(8)] + [(1, 0, 0)]
         data = file_with(32, edges, [(0, v) for v in range(1, 32)], labels=8)
         copy = brute.canonical(brute.decode(data))
-        self.assertEqual(len(copy), 8 + 64 + 4 * 280)
-        self.assertEqual(copy[:14], hexadecimal("01 20 08 00 02 00 18 01  01 00 18 01 00 00"))
+        self.assertEqual(len(copy), 8 + 64 + 5 * 280)
+        self.assertEqual(copy[:14], hexadecimal("02 20 08 00 02 00 18 01  01 00 18 01 00 00"))
         records = copy[8 + 64:]
-        for number, text in ((1, "01 00 02 00"), (9, "01 FF 0A 00"), (10, "02 00 0B 00"), (254, "1D 01 FF 00"),
-                             (255, "1D 02 00 01"), (256, "1D 03 01 01"), (279, "1F FF 00 00"), (280, "00 00 00 00")):
-            self.assertEqual(records[4 * number - 4:4 * number], hexadecimal(text), number)
+        for number, text in ((1, "01 00 02 00 00"), (9, "01 FF 0A 00 00"), (10, "02 00 0B 00 00"), (254, "1D 01 FF 00 00"),
+                             (255, "1D 02 00 01 00"), (256, "1D 03 01 01 00"), (279, "1F FF 00 00 00"), (280, "00 00 00 00 01")):
+            self.assertEqual(records[5 * number - 5:5 * number], hexadecimal(text), number)
 
     # A with changes. Each row: what is changed, a file in another order than its copy's, its copy.
     CHANGED = [
         ("no permit",
          "01 03 01 00 02 00 02 00  02 00 01 00 00 00  02 00 00 00  01 00 00 00",
-         "01 03 01 00 02 00 02 00  01 00 02 00 00 00  01 00 00 00  02 00 00 00"),
+         "02 03 01 00 02 00 02 00  01 00 02 00 00 00  01 00 00 00 00  02 00 00 00 01"),
         ("permit (1,0) too",
          "01 03 01 00 02 00 04 00  02 00 03 00 00 00  01 00 00 00  02 FF 01 00  02 00 04 00  00 FF 00 00",
-         "01 03 01 00 02 00 04 00  01 00 03 00 00 00  01 00 02 00  02 FF 00 00  00 FF 04 00  02 00 00 00"),
+         "02 03 01 00 02 00 04 00  01 00 03 00 00 00  01 00 02 00 00  02 FF 00 00 00  00 FF 04 00 01  02 00 00 00 01"),
         ("permit (1,2) in place of (0,2)",
          "01 03 01 00 02 00 03 00  03 00 01 00 00 00  02 FF 02 00  02 00 00 00  01 00 00 00",
-         "01 03 01 00 02 00 03 00  01 00 02 00 00 00  01 00 00 00  02 00 03 00  02 FF 00 00"),
+         "02 03 01 00 02 00 03 00  01 00 02 00 00 00  01 00 00 00 00  02 00 03 00 01  02 FF 00 00 01"),
         ("no relation (1,2)",
          "01 03 01 00 02 00 02 00  02 00 00 00 00 00  01 00 00 00  02 FF 01 00",
-         "01 03 01 00 02 00 02 00  01 00 00 00 00 00  01 00 02 00  02 FF 00 00"),
+         "02 03 01 00 02 00 02 00  01 00 00 00 00 00  01 00 02 00 00  02 FF 00 00 00"),
         ("relation (0,2) too",
          "01 03 01 00 02 00 04 00  02 00 03 00 00 00  01 00 04 00  02 FF 01 00  02 00 00 00  02 00 00 00",
-         "01 03 01 00 02 00 04 00  01 00 04 00 00 00  01 00 02 00  02 00 03 00  02 FF 00 00  02 00 00 00"),
+         "02 03 01 00 02 00 04 00  01 00 04 00 00 00  01 00 02 00 00  02 00 03 00 00  02 FF 00 00 00  02 00 00 00 01"),
         ("relation (1,0) in place of (1,2)",
          "01 03 01 00 02 00 03 00  03 00 02 00 00 00  01 00 00 00  00 00 00 00  02 FF 01 00",
-         "01 03 01 00 02 00 03 00  01 00 03 00 00 00  01 00 02 00  02 FF 00 00  00 00 00 00"),
+         "02 03 01 00 02 00 03 00  01 00 03 00 00 00  01 00 02 00 00  02 FF 00 00 00  00 00 00 00 01"),
         ("D 3",
          "01 03 01 00 03 00 03 00  02 00 03 00 00 00  01 00 00 00  02 FF 01 00  02 00 00 00",
-         "01 03 01 00 03 00 03 00  01 00 03 00 00 00  01 00 02 00  02 FF 00 00  02 00 00 00"),
+         "02 03 01 00 03 00 03 00  01 00 03 00 00 00  01 00 02 00 00  02 FF 00 00 00  02 00 00 00 01"),
         ("L 2",
          "01 03 02 00 02 00 03 00  02 00 03 00 00 00  01 00 00 00  02 FF 01 00  02 00 00 00",
-         "01 03 02 00 02 00 03 00  01 00 03 00 00 00  01 00 02 00  02 FF 00 00  02 00 00 00"),
+         "02 03 02 00 02 00 03 00  01 00 03 00 00 00  01 00 02 00 00  02 FF 00 00 00  02 00 00 00 01"),
         ("L 2, and label 1 at the relation (1,2)",
          "01 03 02 00 02 00 03 00  02 00 03 00 00 00  01 00 00 00  02 FF 01 00  02 01 00 00",
-         "01 03 02 00 02 00 03 00  01 00 03 00 00 00  01 00 02 00  02 FF 00 00  02 01 00 00"),
+         "02 03 02 00 02 00 03 00  01 00 03 00 00 00  01 00 02 00 00  02 FF 00 00 00  02 01 00 00 01"),
         ("language 1",
          "01 03 01 01 02 00 03 00  02 00 03 00 00 00  01 00 00 00  02 FF 01 00  02 00 00 00",
-         "01 03 01 01 02 00 03 00  01 00 03 00 00 00  01 00 02 00  02 FF 00 00  02 00 00 00"),
+         "02 03 01 01 02 00 03 00  01 00 03 00 00 00  01 00 02 00 00  02 FF 00 00 00  02 00 00 00 01"),
         ("n 4",
          "01 04 01 00 02 00 03 00  02 00 03 00 00 00 00 00  01 00 00 00  02 FF 01 00  02 00 00 00",
-         "01 04 01 00 02 00 03 00  01 00 03 00 00 00 00 00  01 00 02 00  02 FF 00 00  02 00 00 00"),
+         "02 04 01 00 02 00 03 00  01 00 03 00 00 00 00 00  01 00 02 00 00  02 FF 00 00 00  02 00 00 00 01"),
     ]
 
     def written(self, text):
         """What write makes of this file."""
-        return brute.write_reply(hexadecimal(text), bytes(len(hexadecimal(text))))[1]
+        return brute.write_reply(hexadecimal(text), bytes(40))[1]
 
     def test_another_matter_has_another_copy(self):
         copies = {self.written(self.A)}
@@ -503,8 +609,9 @@ class RuleLists(unittest.TestCase):
 
 class RefusalOrder(unittest.TestCase):
 
-    BAD_FILE = b"\x02" + stored.case_file("A")[1:]
+    BAD_FILE = b"\x03" + stored.case_file("A")[1:]
     A = stored.case_file("A")
+    A2 = stored.case_file("A in edition 2")
 
     def test_mining(self):
         scratch, output = b"\xAA" * 1030, b"\xBB" * 9
@@ -572,33 +679,40 @@ class RefusalOrder(unittest.TestCase):
         self.assertEqual(brute.call_verdict(b""), ("refused", 1))
 
     def test_write(self):
-        for room in (0, 25, 26, 40):
+        owner_wrong = self.A2[:-1] + b"\0"
+        for room in (0, 25, 26, 28, 29, 40):
             output = b"\xAA" * room
             self.assertEqual(brute.write_reply(self.BAD_FILE, output), (("refused", 2), output))
+            self.assertEqual(brute.write_reply(owner_wrong, output), (("refused", 15), output))
             self.assertEqual(brute.write_reply(b"", output), (("refused", 1), output))
-            wanted = (("refused", 14), output) if room < 26 else (("length", 26), self.A + output[26:])
+            wanted = (("refused", 14), output) if room < 29 else (("length", 29), self.A2 + output[29:])
             self.assertEqual(brute.write_reply(self.A, output), wanted)
+            self.assertEqual(brute.write_reply(self.A2, output), wanted)
 
 
 # ------------------------------------------- second reckonings, written differently
 
+# How struct writes a record of each edition: target, kind byte, next, and in edition 2 the owner.
+RECORDS = {1: "<BBH", 2: "<BBHB"}
+
+
 def well_formed(data):
-    """01's statement of a house file, without any order of checks."""
+    """01's and 02's statement of a house file, without any order of checks."""
     if len(data) < 8:
         return False
     edition, n, labels, language, longest, spare, count = struct.unpack("<6BH", data[:8])
-    if edition != 1 or spare != 0 or count > 32 * 31 * 9 or language > 3:
+    if edition not in RECORDS or spare != 0 or count > 32 * 31 * 9 or language > 3:
         return False
     if n not in range(1, 33) or labels not in range(1, 9) or longest not in range(1, 32):
         return False
-    if len(data) != 8 + 2 * n + 4 * count:
+    if len(data) != 8 + 2 * n + struct.calcsize(RECORDS[edition]) * count:
         return False
     records, chains = records_and_chains(data)
     if sorted(itertools.chain(*chains)) != list(range(1, count + 1)):
         return False
     for party, chain in enumerate(chains):
         sorts = [records[number][:2] for number in chain]
-        if len(set(sorts)) != len(sorts):
+        if len(set(sorts)) != len(sorts) or any(records[number][3:] not in [(), (party,)] for number in chain):
             return False
         for target, kind in sorts:
             if target not in range(n) or target == party or kind not in [*range(labels), 255]:
@@ -610,7 +724,7 @@ def records_and_chains(data):
     """The records of a file of the right length, by number, and the links of each party's chain."""
     n = data[1]
     heads = struct.unpack("<%dH" % n, data[8:8 + 2 * n])
-    records = [None] + list(struct.iter_unpack("<BBH", data[8 + 2 * n:]))
+    records = [None] + list(struct.iter_unpack(RECORDS[data[0]], data[8 + 2 * n:]))
     return records, [follow(head, records) for head in heads]
 
 
@@ -618,13 +732,13 @@ def copy_by_chains(data):
     """The copy of an accepted file: its own records moved, chain by chain."""
     records, chains = records_and_chains(data)
     heads, moved = b"", b""
-    for chain in chains:
+    for party, chain in enumerate(chains):
         sorts = sorted(records[number][:2] for number in chain)
-        first = len(moved) // 4 + 1
+        first = len(moved) // 5 + 1
         heads += struct.pack("<H", first if sorts else 0)
         followers = [*range(first + 1, first + len(sorts)), 0]
-        moved += b"".join(struct.pack("<BBH", *sort, following) for sort, following in zip(sorts, followers))
-    return data[:8] + heads + moved
+        moved += b"".join(struct.pack("<BBHB", *sort, following, party) for sort, following in zip(sorts, followers))
+    return b"\2" + data[1:8] + heads + moved
 
 
 def follow(link, records):
@@ -836,6 +950,7 @@ class SecondReckonings(unittest.TestCase):
         made += [files.twice_damaged_file(rng) for _ in range(1000)]
         made += [files.byte_changed(files.random_file(rng), rng) for _ in range(1000)]
         made += [files.random_links(rng) for _ in range(4000)]
+        made += [files.of_two_editions(rng) for _ in range(600)]
         for damage in files.DAMAGES:
             made += [files.damaged_draft(rng, damage).bytes() for _ in range(50)]
         for data in made:
@@ -852,20 +967,71 @@ class Files(unittest.TestCase):
             self.assertEqual(brute.check(data), 0)
             self.assertEqual(tuple(brute.decode(data)), tuple(matter))
 
+    # The refusals of a damage, or 0; where the editions differ, those of each.
+    DAMAGES = {
+        files.link_too_high: {3}, files.cycle: {4}, files.crossed: ({4, 6, 8}, {4, 15}),
+        files.crossed_at_own_party: {4}, files.led_back: {4}, files.tails_exchanged: ({0, 6, 8}, {0, 6, 8, 15}),
+        files.chain_cut_off: {5}, files.record_skipped: {5}, files.record_unnamed: {5},
+        files.cycle_unreached: {5}, files.target_too_high: {6}, files.target_own_party: {6},
+        files.kind_wrong: {7}, files.target_and_kind_wrong: {6},
+        files.repeat_in_chain: {8}, files.repeat_in_other_chain: {0},
+        files.owner_another_party: (set(), {15}), files.owner_too_high: (set(), {15}),
+        files.owner_and_target_wrong: (set(), {15}), files.owner_and_kind_wrong: (set(), {15}),
+        files.owner_wrong_at_repeat: (set(), {15}), files.owner_wrong_unreached: (set(), {5}),
+        files.header_field_wrong: {2}, files.header_of_other_edition: {0, 1}, files.count_off_by_one: {1},
+    }
+
     def test_each_damage_has_its_number(self):
-        wanted = {
-            files.link_too_high: {3}, files.cycle: {4}, files.crossed: {4, 6, 8},
-            files.crossed_at_own_party: {4}, files.tails_exchanged: {0, 6, 8},
-            files.chain_cut_off: {5}, files.record_skipped: {5}, files.record_unnamed: {5},
-            files.cycle_unreached: {5}, files.target_too_high: {6}, files.target_own_party: {6},
-            files.kind_wrong: {7}, files.target_and_kind_wrong: {6},
-            files.repeat_in_chain: {8}, files.repeat_in_other_chain: {0},
-            files.header_field_wrong: {2}, files.count_off_by_one: {1},
-        }
         rng = random.Random(22)
-        for damage, numbers in wanted.items():
-            found = {brute.check(files.damaged_draft(rng, damage).bytes()) for _ in range(300)}
-            self.assertEqual(found, numbers, damage.__name__)
+        for damage, numbers in self.DAMAGES.items():
+            found = {1: set(), 2: set()}
+            for _ in range(600):
+                draft = files.damaged_draft(rng, damage)
+                found[draft.body].add(brute.check(draft.bytes()))
+            wanted = numbers if isinstance(numbers, tuple) else (numbers, numbers)
+            self.assertEqual((found[1], found[2]), wanted, damage.__name__)
+        self.assertEqual({*files.DAMAGES} - {*self.DAMAGES}, {files.header_field_other})
+
+    # The numbers that hold together at the first fault of a damaged draft of edition 2.
+    TOGETHER = {files.led_back: [4, 15], files.crossed_at_own_party: [4, 15, 6], files.owner_and_target_wrong: [15, 6],
+                files.owner_and_kind_wrong: [15, 7], files.owner_wrong_at_repeat: [15, 8]}
+
+    def test_faults_that_hold_together(self):
+        rng = random.Random(27)
+        for damage, wanted in self.TOGETHER.items():
+            drafts = [files.damaged_draft(rng, damage) for _ in range(200)]
+            for data in [draft.bytes() for draft in drafts if draft.body == 2]:
+                self.assertEqual(brute.first_fault(data).numbers[:len(wanted)], wanted, damage.__name__)
+
+    def test_both_editions_about_half_each(self):
+        # Owners can be damaged in edition 2 only, so that fewer damaged files are of edition 1.
+        rng = random.Random(28)
+        for make, fewest in ((files.random_file, 120), (files.random_links, 120), (files.of_two_editions, 120),
+                             (lambda rng: run_paths.file_of(rng, files.random_matter(rng)), 120),
+                             (lambda rng: files.middle_files(rng, 1)[0], 120), (files.twice_damaged_file, 80)):
+            editions = [make(rng)[0] for _ in range(300)]
+            for edition in (1, 2):
+                self.assertGreater(editions.count(edition), fewest, make)
+        for make in (files.deep_files, files.limit_files, files.highest_values, files.full_files, files.limit_of_count_files):
+            editions = [data[0] for data in make(rng)]
+            for edition in (1, 2):
+                self.assertGreater(editions.count(edition), 5, make)
+
+    def test_the_other_edition(self):
+        e, a = stored.case_file("A in edition 2"), stored.case_file("A")
+        self.assertEqual((files.in_edition_1(e), files.in_edition_1(a)), (a, a))
+        self.assertEqual((files.length_in(1, e), files.length_in(2, e)), (26, 29))
+        self.assertEqual(files.of_length_in(1, e), e[:26])
+        self.assertEqual(files.of_length_in(2, a), a + bytes(3))
+
+    def test_owners_follow_the_chains(self):
+        draft = files.lay_out(files.Matter(3, 1, 0, 2, {(0, 1, 0), (1, 2, 0)}, set()), random.Random(1), 2)
+        draft.heads[1], draft.heads[2] = 0, draft.heads[1]
+        self.assertEqual(brute.check(draft.bytes()), 15)
+        draft.records[draft.heads[2] - 1][0] = 1
+        draft.give_owners()
+        self.assertEqual(brute.decode(draft.bytes()).edges, {(0, 1, 0), (2, 1, 0)})
+        self.assertEqual(brute.check(draft.bytes()), 0)
 
     def test_cut_and_lengthened(self):
         rng = random.Random(23)
@@ -875,11 +1041,12 @@ class Files(unittest.TestCase):
             self.assertEqual(brute.check(files.lengthened(data, rng)), 1)
 
     def test_full_file(self):
-        data = files.full_draft(random.Random(24), 3, 31).bytes()
-        self.assertEqual(len(data), 35784)
-        self.assertEqual(brute.check(data), 0)
-        house = brute.decode(data)
-        self.assertEqual((len(house.edges), len(house.permits)), (7936, 992))
+        for edition, length in ((1, 35784), (2, 44712)):
+            data = files.full_draft(random.Random(24), 3, 31, edition).bytes()
+            self.assertEqual((len(data), files.LONGEST_FILES[edition]), (length, length))
+            self.assertEqual((brute.check(data), brute.check(data + b"\0"), brute.check(data[:-1])), (0, 1, 1))
+            house = brute.decode(data)
+            self.assertEqual((len(house.edges), len(house.permits)), (7936, 992))
 
     def test_the_longest_legal_chain(self):
         rng = random.Random(25)
@@ -1028,10 +1195,12 @@ class WriteCalls(GuardedCalls):
 
     def test_texts(self):
         data = hexadecimal("01 02 01 00 01 00 02 00  02 00 00 00  01 FF 00 00  01 00 01 00")
-        copy = "0102010001000200010000000100020001FF0000"
-        self.assertEqual(self.text(data, b"\x91" * 20), self.lines("write 20", copy))
-        self.assertEqual(self.text(data, b"\x91" * 22), self.lines("write 20", copy + "9191"))
-        self.assertEqual(self.text(data, b"\x91" * 19), self.lines("write refused 14", "91" * 19))
+        copy = "020201000100020001000000010002000001FF000000"
+        self.assertEqual(self.text(data, b"\x91" * 22), self.lines("write 22", copy))
+        self.assertEqual(self.text(data, b"\x91" * 24), self.lines("write 22", copy + "9191"))
+        self.assertEqual(self.text(hexadecimal(copy), b"\x91" * 22), self.lines("write 22", copy))
+        self.assertEqual(self.text(data, b"\x91" * 21), self.lines("write refused 14", "91" * 21))
+        self.assertEqual(self.text(data, b"\x91" * 20), self.lines("write refused 14", "91" * 20))
         self.assertEqual(self.text(data, b""), self.lines("write refused 14", ""))
         self.assertEqual(self.text(data[:-1], b"\x91" * 20), self.lines("write refused 1", "91" * 20))
         self.assertEqual(self.text(data[:-1], b""), self.lines("write refused 1", ""))
@@ -1165,6 +1334,7 @@ class LargerFiles(unittest.TestCase):
             self.assertEqual(brute.check(graph.data), 0, graph.name)
             self.assertEqual(graph.data[1], 32, graph.name)
         self.assertEqual({graph.data[3] for graph in made}, {0, 1, 2, 3})
+        self.assertEqual({graph.data[0] for graph in made}, {1, 2})
 
     def test_runs_turned_round(self):
         self.assertEqual(large.turned_runs([]), [1])
@@ -1257,6 +1427,8 @@ class Running(unittest.TestCase):
         self.assertEqual(len(lines), len(run_permit.DEMANDS) + 2)
         lines = run_write.lacking(run_write.Collection(random.Random(1)))
         self.assertEqual(len(lines), len(run_write.DEMANDS))
+        account = run_cases.Account()
+        self.assertEqual(len(account.lacking()), 1 + len(brute.FILE_REFUSALS) + 4 + len(account.limits) + len(run_cases.DEMANDS))
 
 
 if __name__ == "__main__":

@@ -8,6 +8,7 @@ import ctypes
 import io
 import os
 import random
+import re
 import subprocess
 import tempfile
 import unittest
@@ -35,16 +36,28 @@ class Unpacking(unittest.TestCase):
         self.assertEqual(console.unpack(0x80, console.PERMIT), ("no",))
         self.assertEqual(console.unpack(0x81, console.PERMIT), ("yes",))
         for kinds in (console.VERDICT, console.MINING, console.PERMIT):
-            for number in range(1, 15):
+            for number in range(1, 16):
                 self.assertEqual(console.unpack(number, kinds), ("refused", number))
 
     def test_nothing_else_is_a_reply(self):
-        for number in (0, 15, 16, 127, 0x104, 0x83, 0x1000281, 0x10201010082, (1 << 64) - 1):
+        for number in (0, 16, 127, 0x104, 0x10F, 0x83, 0x1000281, 0x10201010082, (1 << 64) - 1):
             self.assertEqual(console.unpack(number, console.VERDICT), ("unpacked", number))
-        for number in (0, 15, 16, 127, 129, 130, 1 << 32 | 12):
+        for number in (0, 16, 127, 129, 130, 1 << 32 | 12):
             self.assertEqual(console.unpack(number, console.MINING), ("unpacked", number))
-        for number in (0, 15, 16, 17, 127, 130, 0x180, 0x181, 1 << 63 | 129):
+        for number in (0, 16, 17, 127, 130, 0x180, 0x181, 1 << 63 | 129):
             self.assertEqual(console.unpack(number, console.PERMIT), ("unpacked", number))
+
+
+class Header(unittest.TestCase):
+    """The numbers of include/hempmallet.h."""
+
+    def test_numbers(self):
+        with open(os.path.join(make_examples.FOLDER, os.pardir, "include", "hempmallet.h")) as header:
+            text = header.read()
+        refusals = [int(number) for number in re.findall(r"HEMPMALLET_REFUSED_\w+ = (\d+)", text)]
+        self.assertEqual(refusals, [number for number in console.REFUSALS if number != 11])  # 11 is path's and next-word's
+        self.assertIn("#define HEMPMALLET_LONGEST_FILE %du" % (brute.PROGRAM_INPUT - 1), text)
+        self.assertIn("HEMPMALLET_REFUSED_OWNER = 15", text)
 
 
 # Functions that write where they may not. The first byte of a file says where.
@@ -163,6 +176,22 @@ class LargerFiles(unittest.TestCase):
             self.assertEqual(brute.permitconv(row.data), text, row.name)
 
 
+class Inputs(unittest.TestCase):
+    """Inputs of permitconv about as long as it reads."""
+
+    def test_texts(self):
+        made = list(run_permitconv.about_the_longest(random.Random(8)))
+        for kind, data, text in made:
+            if not kind.startswith("the longest file"):  # too many words to list
+                self.assertEqual(brute.permitconv(data), text, kind)
+        lengths = {kind: len(data) for kind, data, _ in made if kind.startswith("the longest file")}
+        self.assertEqual(lengths, {"the longest file of edition 1": 35784, "the longest file of edition 2": 44712})
+
+    def test_lengths(self):
+        names = [run_permitconv.length_names(length) for length in (44711, 44712, 44713, 44714)]
+        self.assertEqual(names, [[], ["input of 44,712 bytes"], ["input of 44,713 bytes"], ["input above 44,713 bytes"]])
+
+
 class Drawing(unittest.TestCase):
 
     def test_words_are_shared_by_files_that_differ_in_permits_only(self):
@@ -178,6 +207,24 @@ class Drawing(unittest.TestCase):
                 kinds[made.kind, made.known.verdict()[0]] += 1
                 self.assertEqual(brute.call_verdict(made.data), made.known.verdict())
         self.assertEqual([kind for kind in kinds if kind[0] == "rules" and kind[1] != "convertible"], [])
+
+    def test_both_editions_are_drawn(self):
+        rng, editions = random.Random(6), Counter()
+        for made in converting.drawn(rng, 60, 5, 30):
+            editions[made.known.edition] += 1
+        editions.update("larger %d" % row.data[0] for row in large_console.rows(rng, 4))
+        for edition in (1, 2, "larger 1", "larger 2"):
+            self.assertGreater(editions[edition], 15, editions)
+
+    def test_the_same_matter_in_both_editions(self):
+        rng, answers = random.Random(7), Counter()
+        for made in [made for _ in range(60) for made in converting.of_one_graph(rng)]:
+            data = converting.in_other_edition(rng, made)
+            self.assertEqual({data[0], made.data[0]}, {1, 2})
+            self.assertEqual(run_console.said(brute.Known(data)), run_console.said(made.known))
+            self.assertEqual(brute.permitconv(data), brute.permitconv(made.data))
+            answers[made.known.verdict()[0]] += 1
+        self.assertTrue(all(answers[name] > 10 for name in ("convertible", "rival", "no-word")), answers)
 
     def test_every_demand_is_missed_by_nothing(self):
         run = run_console.Run(None, random.Random(5), comparing.Tally())

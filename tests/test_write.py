@@ -14,7 +14,9 @@ import stored
 
 A = stored.case_file("A")
 A_TURNED = bytes.fromhex("01 03 01 00 02 00 03 00  02 00 03 00 00 00  01 00 00 00  02 FF 01 00  02 00 00 00")
-LONGEST = files.full_draft(random.Random(1), 0, 31).bytes()
+A2 = stored.case_file("A in edition 2")
+A2_TURNED = bytes.fromhex("02 03 01 00 02 00 03 00  02 00 03 00 00 00  01 00 00 00 00  02 FF 01 00 00  02 00 00 00 01")
+LONGEST = {edition: files.full_draft(random.Random(1), 0, 31, edition).bytes() for edition in (1, 2)}
 
 
 def in_language(data, language):
@@ -36,46 +38,63 @@ def collection():
 
 # ---------------------------------------------------------------- the examples
 
-# Lengths of an output beside a file of 26 bytes.
+# Lengths of an output beside a length of 29 bytes.
 ROOMS = [
-    (0, "no output"), (1, "output shorter by more"), (24, "output shorter by more"), (25, "output one byte short"),
-    (26, "output of the file's length"), (27, "output longer"), (60000, "output longer"),
+    (0, "no output"), (1, "output shorter by more"), (27, "output shorter by more"), (28, "output one byte short"),
+    (29, "output of just that length"), (30, "output longer"), (60000, "output longer"),
 ]
+
+JUST, ADDED, IS_COPY = "output of just that length", "owners are added", "the file is its copy"
+
+
+def written(language, edition, moved):
+    return ["written in language %d" % language, "written of edition %d" % edition, moved]
+
+
+def moved(edition):
+    return "records are moved in edition %d" % edition
+
 
 # Each row: the file, the output's length, the reply, and what occurs in such a case of write.
 OCCURRENCES = [
-    (A, 26, ("length", 26), ["written in language 0", "the file is its copy", "output of the file's length"]),
-    (A, 27, ("length", 26), ["written in language 0", "the file is its copy", "output longer"]),
-    (A_TURNED, 26, ("length", 26), ["written in language 0", "records are moved", "output of the file's length"]),
-    (in_language(A, 1), 30, ("length", 26), ["written in language 1", "the file is its copy", "output longer"]),
-    (in_language(A_TURNED, 2), 30, ("length", 26), ["written in language 2", "records are moved", "output longer"]),
-    (in_language(A_TURNED, 3), 30, ("length", 26), ["written in language 3", "records are moved", "output longer"]),
-    (A, 25, ("refused", 14), ["refused 14", "output one byte short"]),
-    (A_TURNED, 24, ("refused", 14), ["refused 14", "output shorter by more"]),
+    (A, 29, ("length", 29), written(0, 1, ADDED) + [JUST]),
+    (A, 30, ("length", 29), written(0, 1, ADDED) + ["output longer"]),
+    (A2, 29, ("length", 29), written(0, 2, IS_COPY) + [JUST]),
+    (A_TURNED, 29, ("length", 29), written(0, 1, moved(1)) + [JUST]),
+    (A2_TURNED, 33, ("length", 29), written(0, 2, moved(2)) + ["output longer"]),
+    (in_language(A, 1), 33, ("length", 29), written(1, 1, ADDED) + ["output longer"]),
+    (in_language(A2_TURNED, 2), 33, ("length", 29), written(2, 2, moved(2)) + ["output longer"]),
+    (in_language(A_TURNED, 3), 33, ("length", 29), written(3, 1, moved(1)) + ["output longer"]),
+    (A, 28, ("refused", 14), ["refused 14", "output one byte short"]),
+    (A2, 28, ("refused", 14), ["refused 14", "output one byte short"]),
+    (A_TURNED, 27, ("refused", 14), ["refused 14", "output shorter by more"]),
+    (A, 26, ("refused", 14), ["refused 14", "output shorter by more", "output of the file's length is short"]),
+    (A2, 26, ("refused", 14), ["refused 14", "output shorter by more"]),
     (A, 0, ("refused", 14), ["refused 14", "no output"]),
-    (stored.case_file("A without its last byte"), 25, ("refused", 1),
-     ["refused 1", "file refused, output of the file's length"]),
+    (stored.case_file("n 1 and R 0"), 10, ("length", 10), written(0, 1, ADDED) + [JUST]),
+    (stored.case_file("A without its last byte"), 25, ("refused", 1), ["refused 1", "file refused, " + JUST]),
     (stored.case_file("A with n 33"), 0, ("refused", 2), ["refused 2", "file refused, no output"]),
     (stored.case_file("A with head 2 at record 4"), 25, ("refused", 3),
      ["refused 3", "file refused, output one byte short"]),
     (stored.case_file("A with record 2's next 01 00"), 27, ("refused", 4),
      ["refused 4", "file refused, output longer"]),
     (stored.case_file("A with head 1 zero"), 24, ("refused", 5), ["refused 5", "file refused, output shorter by more"]),
-    (stored.case_file("A with record 3's target 3, which is n"), 26, ("refused", 6),
-     ["refused 6", "file refused, output of the file's length"]),
+    (stored.case_file("A with record 3's target 3, which is n"), 26, ("refused", 6), ["refused 6", "file refused, " + JUST]),
     (stored.case_file("A with record 3's kind 1, which is L"), 0, ("refused", 7),
      ["refused 7", "file refused, no output"]),
     (stored.case_file("(0,1) with label 0 twice"), 60, ("refused", 8), ["refused 8", "file refused, output longer"]),
-    (LONGEST, 35784, ("length", 35784), ["written in language 0", "records are moved", "output of the file's length",
-                                         "the longest file, output of the file's length"]),
-    (LONGEST, 35785, ("length", 35784), ["written in language 0", "records are moved", "output longer",
-                                         "the longest file, output longer"]),
-    (LONGEST, 35783, ("refused", 14),
-     ["refused 14", "output one byte short", "the longest file, output one byte short"]),
-    (LONGEST, 0, ("refused", 14), ["refused 14", "no output", "the longest file, no output"]),
-    (LONGEST[:-1], 0, ("refused", 1), ["refused 1", "file refused, no output"]),
-    (b"\2" + LONGEST[1:], 0, ("refused", 2), ["refused 2", "file refused, no output"]),
+    (stored.case_file("A in edition 2 with record 1's owner 01"), 29, ("refused", 15), ["refused 15", "file refused, " + JUST]),
+    (LONGEST[1][:-1], 0, ("refused", 1), ["refused 1", "file refused, no output"]),
+    (b"\3" + LONGEST[1][1:], 0, ("refused", 2), ["refused 2", "file refused, no output"]),
 ]
+for edition, data in LONGEST.items():
+    for room, reply, names, lent in (
+            (44712, ("length", 44712), written(0, edition, moved(edition)), JUST),
+            (44713, ("length", 44712), written(0, edition, moved(edition)), "output longer"),
+            (44711, ("refused", 14), ["refused 14"], "output one byte short"),
+            (35785, ("refused", 14), ["refused 14"], "output shorter by more"),
+            (0, ("refused", 14), ["refused 14"], "no output")):
+        OCCURRENCES.append((data, room, reply, names + [lent, "the longest file of edition %d, %s" % (edition, lent)]))
 
 NONE_OF_SEVERAL = ["no records", "no records for several parties", "a label that no record uses"]
 BOTH_TO_ONE = "a permit and a relation to one target"
@@ -133,12 +152,20 @@ FEATURES = [
     (first_records(32, 8, 31, 8928), OF_32 + ["every chain full", "a chain of 279 records", "R 8,928"]),
 ]
 
+# Files of edition 1 and of edition 2 with no head and one record; the record's first byte tells them apart.
+ONE = [bytes([1, 0, 0, 0, 0, 0, 1, 0, target, 0, 0, 0]) for target in range(4)]
+TWO = [bytes([2, 0, 0, 0, 0, 0, 1, 0, target, 0, 0, 0, 9]) for target in range(4)]
+
 # Each row: the files of a matter, its copy, and what is special in them.
+THREE, NOT_COPYS, BOTH = "three different orders", "no order is the copy's", "orders in both editions"
 ORDERS = [
-    ([b"1", b"2", b"3"], b"4", ["three different orders", "no order is the copy's"]),
-    ([b"1", b"2", b"3"], b"3", ["three different orders"]),
-    ([b"1", b"2", b"1"], b"4", ["no order is the copy's"]),
-    ([b"1", b"1", b"1"], b"1", []),
+    ([ONE[1], ONE[2], ONE[3]], TWO[0], [THREE, NOT_COPYS]),
+    ([ONE[1], TWO[2], ONE[3]], TWO[0], [THREE, NOT_COPYS, BOTH]),
+    ([ONE[1], TWO[2], TWO[3]], TWO[3], [THREE, BOTH]),
+    ([ONE[1], TWO[2], ONE[3]], TWO[3], [THREE, BOTH]),
+    ([ONE[1], TWO[2], TWO[1]], TWO[0], [NOT_COPYS, BOTH]),
+    ([TWO[1], TWO[2], TWO[1]], TWO[0], [NOT_COPYS]),
+    ([ONE[1], TWO[1], ONE[1]], TWO[1], [BOTH]),
 ]
 
 # A reply's lines, and how its answer is named.
@@ -163,12 +190,12 @@ class Names(unittest.TestCase):
 
     def test_rooms(self):
         for room, name in ROOMS:
-            self.assertEqual(run_write.room_name(A, room), name, room)
+            self.assertEqual(run_write.room_name(29, room), name, room)
 
     def test_rooms_of_the_shortest_files(self):
-        # Where two names fit, it is the one about the file's length.
-        self.assertEqual(run_write.room_name(b"", 0), "output of the file's length")
-        self.assertEqual(run_write.room_name(b"\1", 0), "output one byte short")
+        # Where two names fit, it is the one about the length.
+        self.assertEqual(run_write.room_name(0, 0), JUST)
+        self.assertEqual(run_write.room_name(1, 0), "output one byte short")
 
     def test_occurrences(self):
         for number, (data, room, reply, names) in enumerate(OCCURRENCES):
@@ -195,8 +222,9 @@ class Names(unittest.TestCase):
         shown |= {"matter: " + name for row in FEATURES for name in row[1]}
         shown |= {"matter: " + name for row in ORDERS for name in row[2]}
         shown |= {"changed: " + name for name in run_write.CHANGES}
-        shown |= {run_write.UNLIKE + name for _, name in ANSWERS}
-        shown |= {run_write.UNLIKE + "files in language %d" % language for language in range(4)}
+        for begins in (run_write.OTHER_EDITION, run_write.UNLIKE):
+            shown |= {begins + name for _, name in ANSWERS}
+            shown |= {begins + "files in language %d" % language for language in range(4)}
         self.assertEqual(set(run_write.DEMANDS) - shown, set())
 
 
@@ -205,26 +233,37 @@ class Counting(unittest.TestCase):
 
     def test_a_case(self):
         made = collection()
-        made.add(A_TURNED, 25)
+        made.add(A_TURNED, 28)
         self.assertEqual(made.account, {"write: frames": 1, "write: refused 14": 1, "write: output one byte short": 1})
 
     def test_a_file_is_new_once(self):
         made = collection()
-        for data in (A, A_TURNED, A, A_TURNED):
-            self.assertEqual(made.copy_of(data), A)
-        self.assertEqual((made.account["files: accepted and new"], made.account["write: frames"]), (2, 4))
+        for data in (A, A_TURNED, A2, A2_TURNED, A, A2, A_TURNED):
+            self.assertEqual(made.copy_of(data), A2)
+        self.assertEqual((made.account["files: accepted and new"], made.account["write: frames"]), (4, 7))
+
+    def test_short_outputs(self):
+        for data, fewest in ((A, 2), (A2, 1)):
+            made = collection()
+            for _ in range(50):
+                made.add_short(data)
+            self.assertEqual(made.account["write: refused 14"], made.account["write: frames"])
+            self.assertGreaterEqual(len(made.cases), 50 * fewest)
+            for name in ("no output", "output one byte short", "output shorter by more"):
+                self.assertGreater(made.account["write: " + name], 0, name)
+        self.assertEqual(made.account["write: output of the file's length is short"], 0)
 
     def test_a_matter_in_one_order_only(self):
         made = collection()
         run_write.add_matter(made, matter(2, [(0, 1, 0)]))
         found = {name for name in made.account if name.startswith("matter: ")}
-        self.assertEqual(found, {"matter: any", "matter: " + D_ABOVE})
+        self.assertEqual(found, {"matter: any", "matter: " + D_ABOVE, "matter: " + BOTH})
         self.assertEqual(made.faults, [])
 
     def test_a_matter_in_three_orders(self):
         made = collection()
         run_write.add_matter(made, first_records(5, 1, 4, 30))
-        for name in ("any", "three different orders", "no order is the copy's"):
+        for name in ("any", THREE, NOT_COPYS, BOTH):
             self.assertEqual(made.account["matter: " + name], 1, name)
 
     def test_changes(self):
@@ -251,7 +290,7 @@ class Counting(unittest.TestCase):
 
 
 class AskedAgain(unittest.TestCase):
-    """The other calls on a file and on its copy."""
+    """The other calls on a file and on another one with the same matter."""
 
     LENT = b"\xDD" * 16 + b"\xEE" * 31 + b"\xDD" * 16
     LIST = bytes.fromhex("01 00 01 00 02 00 00")
@@ -276,49 +315,52 @@ class AskedAgain(unittest.TestCase):
     def cases(self, data):
         return [script.Case(frame, text) for frame, text in zip(self.frames(data), self.TEXTS)]
 
-    def test_the_same_call_about_the_copy(self):
-        known = brute.Known(A)
-        again = [run_write.asked_again(case, A, known) for case in self.cases(A_TURNED)]
-        self.assertEqual(again, self.cases(A))
+    def test_the_same_call_about_another_file(self):
+        for data in (A, A2, A2_TURNED):
+            again = [run_write.asked_again(case, data, brute.Known(data)) for case in self.cases(A_TURNED)]
+            self.assertEqual(again, self.cases(data))
 
-    def both(self, data, copy):
-        """A collection of these cases on a file and on what is taken for its copy."""
+    def again(self, data, other):
+        """A collection of these cases, asked again about what is taken for another file of the same matter."""
         made = collection()
         for case in self.cases(data):
-            run_write.add_both(made, case, copy, brute.Known(copy))
+            run_write.add_again(made, case, run_write.UNLIKE, other, brute.Known(other))
         return made
 
-    def test_both_are_run(self):
-        made = self.both(A_TURNED, A)
-        self.assertEqual(made.cases, [case for both in zip(self.cases(A_TURNED), self.cases(A)) for case in both])
+    def test_the_others_are_run(self):
+        made = self.again(A_TURNED, A2)
+        self.assertEqual(made.cases, self.cases(A2))
         self.assertEqual(made.account, {run_write.UNLIKE + name: 1 for name in self.NAMES})
         self.assertEqual(made.faults, [])
 
-    def test_a_file_that_is_its_copy_is_not_counted(self):
-        made = self.both(A, A)
-        self.assertEqual((len(made.cases), made.account, made.faults), (12, {}, []))
-
     def test_another_answer_is_a_fault(self):
         # B's permit is another one; without the relation (1,2) there is no path and no word either.
-        without = bytes.fromhex("01 03 01 00 02 00 02 00  01 00 00 00 00 00  01 00 02 00  02 FF 00 00")
-        for copy, names in ((stored.case_file("B"), ["decode found"]),
-                            (without, ["decode found", "path found", "next-word found", "permit yes"]),
-                            (stored.case_file("A with head 1 zero"), self.NAMES)):
-            self.assertEqual(self.both(A_TURNED, copy).faults,
-                             ["a copy has another answer than its file: " + name for name in names])
+        without = bytes.fromhex("02 03 01 00 02 00 02 00  01 00 00 00 00 00  01 00 02 00 00  02 FF 00 00 00")
+        for other, names in ((stored.case_file("B"), ["decode found"]),
+                             (without, ["decode found", "path found", "next-word found", "permit yes"]),
+                             (stored.case_file("A in edition 2 with record 1's owner 01"), self.NAMES)):
+            self.assertEqual(self.again(A_TURNED, other).faults,
+                             ["another answer for " + run_write.UNLIKE + name for name in names])
+
+    def test_a_copy_that_is_its_file_is_not_counted(self):
+        made = collection()
+        run_write.ask_all(made, matter(2, [(0, 1, 0)]))
+        self.assertEqual([name for name in made.account if name.startswith(run_write.UNLIKE)], [])
+        self.assertEqual(made.account[run_write.OTHER_EDITION + "check accepted"], 1)
 
     def test_every_call_is_asked(self):
         made = collection()
         for language in range(4):
-            run_write.ask_both(made, first_records(4, 2, 3, 30)._replace(language=language))
-            self.assertEqual(made.account[run_write.UNLIKE + "files in language %d" % language], 1)
+            run_write.ask_all(made, first_records(4, 2, 3, 30)._replace(language=language))
+            for begins in (run_write.OTHER_EDITION, run_write.UNLIKE):
+                self.assertEqual(made.account[begins + "files in language %d" % language], 1)
         self.assertEqual(made.faults, [])
         frames = [script.parts_of(case.frame) for case in made.cases]
-        copies = [brute.canonical(brute.decode(parts.data)) == parts.data for parts in frames]
+        sorts = [(parts.data[0], brute.canonical(brute.decode(parts.data)) == parts.data) for parts in frames]
         for call, times in (("c", 4), ("d", 4), ("p", 20), ("n", 20), ("r", 24)):
-            for is_copy in (False, True):
-                asked = [parts for parts, one in zip(frames, copies) if parts.call == call and one == is_copy]
-                self.assertGreaterEqual(len(asked), times, (call, is_copy))
+            for sort in ((1, False), (2, False), (2, True)):
+                asked = [parts for parts, one in zip(frames, sorts) if parts.call == call and one == sort]
+                self.assertGreaterEqual(len(asked), times, (call, sort))
 
 
 if __name__ == "__main__":

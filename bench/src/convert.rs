@@ -22,7 +22,7 @@ use tables::Table;
 
 /// More than any list of the tables.
 const LONGEST_LIST: usize = 1 << 16;
-const PROGRAM_INPUT: u64 = 35785;
+const PROGRAM_INPUT: u64 = 44713;
 const PROGRAM_LIST: usize = 65536;
 
 #[cfg(product)]

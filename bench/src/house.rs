@@ -1,4 +1,4 @@
-//! House files: reading with the check of document 01, and laying out.
+//! House files: reading with the check of documents 01 and 02, both editions, and laying out in edition 1.
 
 use crate::twin::{Graph, Pair, MOST_PARTIES};
 
@@ -64,7 +64,7 @@ pub fn read(file: &[u8]) -> Result<House, u8> {
     let (parties, labels, language, longest) =
         (file[1] as usize, file[2] as usize, file[3], file[4] as usize);
     let records = two_bytes(file, 6);
-    let in_range = file[0] == 1
+    let in_range = (1..=2).contains(&file[0])
         && (1..=32).contains(&parties)
         && (1..=8).contains(&labels)
         && language <= 3
@@ -74,12 +74,18 @@ pub fn read(file: &[u8]) -> Result<House, u8> {
     if !in_range {
         return Err(2);
     }
-    if file.len() != 8 + 2 * parties + 4 * records {
+    if file.len() != record_place(file, records + 1) {
         return Err(1);
     }
     let (relations, permits) = follow(file, parties, labels, records)?;
     let graph = enlarge(&relations, parties, labels, language);
     Ok(House { parties, labels, language, longest, graph, permits })
+}
+
+/// Where a record begins. In edition 2 the owner follows the four bytes of edition 1.
+fn record_place(file: &[u8], number: usize) -> usize {
+    let size = if file[0] == 2 { 5 } else { 4 };
+    8 + 2 * file[1] as usize + size * (number - 1)
 }
 
 /// Follows the chains of all parties in order.
@@ -99,8 +105,11 @@ fn follow(file: &[u8], parties: usize, labels: usize, records: usize) -> Result<
             }
             reached[link] = true;
             count += 1;
-            let at = 8 + 2 * parties + 4 * (link - 1);
+            let at = record_place(file, link);
             let (target, kind) = (file[at] as usize, file[at + 1]);
+            if file[0] == 2 && file[at + 4] as usize != party {
+                return Err(15);
+            }
             if target >= parties || target == party {
                 return Err(6);
             }

@@ -1,21 +1,24 @@
 -- The canonical file of a matter in limits is made of bytes: its numbers are small, and two-byte fields are below 65,536. Assumes nothing.
-use mathlib.Core.Path.{_≡_, refl, ap}
 use mathlib.Core.Logic.{⊎-elim, by-cases}
-use mathlib.Core.List.{List, [], _∷_, _++_, List·Memᴰ, List·Memᴰ·head, List·Memᴰ·tail, List·Memᴰ·not-nil, List·Memᴰ·append-cases}
+use mathlib.Core.List.{List, [], _∷_, _++_, List·Memᴰ, List·Memᴰ·not-nil, List·Memᴰ·append-cases}
 use Prim.Native.Nat.{ℕ, suc, _+_, _/_, _%_, _≤_, _<_}
 use native.Mathlib.Omega.{arith}
 use native.Mathlib.Decide.{decLt}
+use lib.Dec.{eqb}
 use Rattle.lists.specs.Lists.{flatMap, range}
-use Rattle.lists.proofs.Cases.{by-mem}
+use Rattle.lists.proofs.Cases.{by-test, by-mem}
 use Rattle.lists.proofs.ListLaws.{flat-out, range-out}
 use Rattle.lists.proofs.Pointwise.{getD-below}
 use Rattle.fields.specs.Numbers.{u16Bytes, Bytes}
 use Rattle.rebac.specs.Matter.{Matter}
+use Rattle.house_layout.specs.Layout.{ownerIn}
 use Rattle.house_layout.specs.declared.record.Record.{Record}
 use Rattle.house_layout.proofs.RecordLaws.{kind-small}
-use Rattle.canonical.specs.Canonical.{Entry, entriesOf, countOf, firstOf, link, linked, recordsFor, headerBytes, headsBy, recordBytes, headerFor, canonicalOf}
+use Rattle.house_file.specs.Meaning.{IsEdition}
+use Rattle.canonical.specs.Canonical.{Entry, entriesOf, countOf, firstOf, link, recordsFor, headerBytes, headsBy}
+use Rattle.canonical.specs.Canonical.{ownerBytes, recordBytes, headerFor, canonicalOf}
 use Rattle.canonical.specs.Shape.{InLimits}
-use Rattle.canonical.proofs.LayoutLaws.{first-most}
+use Rattle.canonical.proofs.LayoutLaws.{first-most, linked-out}
 use Rattle.canonical.proofs.EntryLaws.{entry-out, entries-few}
 use Rattle.canonical.proofs.ChainLaws.{link-inside, link-past}
 
@@ -38,31 +41,17 @@ small-u16 : (n : ℕ) → n < 65536 → Small (u16Bytes n)
 unfolding u16Bytes
 small-u16 n h = small-cons (n % 256) (n / 256 ∷ []) (omega arith) (small-cons (n / 256) [] (omega arith) small-nil)
 
--- a chain's record has the target and kind of one of its entries
-linked-out : (end r : ℕ) (es : List Entry) (x : Record) → List·Memᴰ x (linked end r es) → (e : Entry) × (List·Memᴰ e es × ((x .target ≡ e .target) × (x .kind ≡ e .kind)))
-unfolding linked
-linked-out end r [] x m = absurd (List·Memᴰ·not-nil m)
-linked-out end r (e ∷ es) x m =
-    by-mem m
-    (λ q. (e, (List·Memᴰ·head refl, (ap (λ (y : Record). y .target) q, ap (λ (y : Record). y .kind) q))))
-    (λ n. let o = linked-out end (suc r) es x n in (o .0, (List·Memᴰ·tail (o .1 .0), o .1 .1)))
-
 link-below : (end r : ℕ) → link end r ≤ end
 link-below end r = by-cases (decLt r end) (λ h. omega (arith, link-inside end r h)) (λ h. omega (arith, link-past end r (omega arith)))
 
-next-below : (end r : ℕ) (es : List Entry) (x : Record) → List·Memᴰ x (linked end r es) → x .next ≤ end
-unfolding linked
-next-below end r [] x m = absurd (List·Memᴰ·not-nil m)
-next-below end r (e ∷ es) x m = by-mem m (λ q. omega (arith, ap (λ (y : Record). y .next) q, link-below end (suc r))) (λ n. next-below end (suc r) es x n)
-
-module _ (M : Matter) (i : InLimits M) where
+module _ (d : ℕ) (known : IsEdition d) (M : Matter) (i : InLimits M) where
   end-small : (u : ℕ) → u < M .parties → firstOf M (suc u) < 65536
   end-small u h = omega (arith, first-most M (suc u) h, entries-few M i)
 
-  header-small : Small (headerBytes (headerFor M))
+  header-small : Small (headerBytes (headerFor d M))
   unfolding headerBytes
   header-small =
-      small-cons 1 _ (omega arith)
+      small-cons d _ (omega (arith, known .1))
       (small-cons (M .parties) _ (omega (arith, i .limits .parties .1))
       (small-cons (M .labels) _ (omega (arith, i .limits .labels .1))
       (small-cons (M .language) _ (omega (arith, i .limits .language))
@@ -71,23 +60,36 @@ module _ (M : Matter) (i : InLimits M) where
       (small-u16 (countOf M) (omega (arith, entries-few M i))))))))
 
   head-small : (u : ℕ) → u < M .parties → Small (u16Bytes (link (firstOf M (suc u)) (firstOf M u)))
-  head-small u h = small-u16 (link (firstOf M (suc u)) (firstOf M u)) (omega (arith, link-below (firstOf M (suc u)) (firstOf M u), end-small u h))
+  head-small u h =
+      small-u16 (link (firstOf M (suc u)) (firstOf M u))
+      (omega (arith, link-below (firstOf M (suc u)) (firstOf M u), end-small u h))
 
-  record-small : (u : ℕ) → u < M .parties → (x : Record) → List·Memᴰ x (recordsFor M u) → Small (recordBytes x)
+  owner-small : (u : ℕ) → u < M .parties → Small (ownerBytes (ownerIn d u))
+  unfolding ownerIn
+  owner-small u h =
+      by-test (eqb d 1) (λ q. rw q small-nil) (λ q. rw q (small-cons u [] (omega (arith, i .limits .parties .1)) small-nil))
+
+  record-small : (u : ℕ) → u < M .parties → (x : Record) → List·Memᴰ x (recordsFor d M u) → Small (recordBytes x)
   unfolding recordsFor recordBytes
   record-small u h x m =
-      let o = linked-out (firstOf M (suc u)) (firstOf M u) (entriesOf M u) x m in
-      let s = entry-out M u (o .0) (o .1 .0) in
-      small-cons (x .target) _ (omega (arith, o .1 .1 .0, s .target, i .limits .parties .1))
-      (small-cons (x .kind) _ (omega (arith, o .1 .1 .1, kind-small (M .labels) (i .limits .labels .1) (o .0 .kind) (s .legal)))
-      (small-u16 (x .next) (omega (arith, next-below (firstOf M (suc u)) (firstOf M u) (entriesOf M u) x m, end-small u h))))
+      let end : ℕ = firstOf M (suc u) in
+      let o = linked-out d end (firstOf M u) (entriesOf M u) x m in
+      let e : Entry = o .1 .0 in
+      let s = entry-out M u e (o .1 .1 .0) in
+      rw (o .1 .1 .1)
+      (small-cons (e .target) _ (omega (arith, s .target, i .limits .parties .1))
+      (small-cons (e .kind) _ (kind-small (M .labels) (i .limits .labels .1) (e .kind) (s .legal))
+      (small-append (u16Bytes (link end (suc (o .0)))) _
+      (small-u16 (link end (suc (o .0))) (omega (arith, link-below end (suc (o .0)), end-small u h)))
+      (rw (s .owner) (owner-small u h)))))
 
-  pub canonical-bytes : Bytes (canonicalOf M)
+  pub canonical-bytes : Bytes (canonicalOf d M)
   unfolding canonicalOf headsBy
   canonical-bytes =
-      getD-below 256 (omega arith) (canonicalOf M)
-      (small-append (headerBytes (headerFor M)) _ header-small
+      getD-below 256 (omega arith) (canonicalOf d M)
+      (small-append (headerBytes (headerFor d M)) _ header-small
       (small-append (headsBy (firstOf M) (M .parties)) _
-      (small-flat (λ u. u16Bytes (link (firstOf M (suc u)) (firstOf M u))) (range (M .parties)) (λ u m. head-small u (range-out (M .parties) m)))
-      (small-flat recordBytes (flatMap (recordsFor M) (range (M .parties)))
-      (λ x m. let r = flat-out (recordsFor M) (range (M .parties)) m in record-small (r .0) (range-out (M .parties) (r .1)) x (r .2)))))
+      (small-flat (λ u. u16Bytes (link (firstOf M (suc u)) (firstOf M u))) (range (M .parties))
+      (λ u m. head-small u (range-out (M .parties) m)))
+      (small-flat recordBytes (flatMap (recordsFor d M) (range (M .parties)))
+      (λ x m. let r = flat-out (recordsFor d M) (range (M .parties)) m in record-small (r .0) (range-out (M .parties) (r .1)) x (r .2)))))

@@ -1,5 +1,5 @@
--- Chains of the canonical file are consecutive numbers: from a record that is not the chain's last the next one is named, from the last none, by induction
--- on the records left. Assumes nothing.
+-- Chains of the canonical file are consecutive numbers: from a record that is not the chain's last the next one is named, from the last
+-- none, by induction on the records left. Assumes nothing.
 use mathlib.Core.Path.{_≡_, refl, sym, ap, _∙_}
 use mathlib.Core.Logic.{by-cases}
 use mathlib.Core.List.{List, _∷_, List·Memᴰ}
@@ -25,81 +25,93 @@ link-inside end r h = rw (lt-ltb r end h)
 pub link-past : (end r : ℕ) → end ≤ r → link end r ≡ 0
 link-past end r h = rw (le-ltb r end h)
 
-module _ (M : Matter) (u : ℕ) (h : u < M .parties) where
+module _ (e : ℕ) (M : Matter) (u : ℕ) (h : u < M .parties) where
   -- record r of the chain
-  chain-record : (r : ℕ) → firstOf M u ≤ r → r < firstOf M (suc u) → recordOf (canonicalOf M) r ≡ recordFor (firstOf M (suc u)) r (getD (entriesOf M u) (r - firstOf M u) noEntry)
+  chain-record : (r : ℕ) → firstOf M u ≤ r → r < firstOf M (suc u)
+      → recordOf (canonicalOf e M) r ≡ recordFor e (firstOf M (suc u)) r (getD (entriesOf M u) (r - firstOf M u) noEntry)
   chain-record r a b =
-      let e : firstOf M u + (r - firstOf M u) ≡ r = omega arith in
-      rw e at (party-record M u (r - firstOf M u) h (omega (arith, first-step M u)))
+      let z : firstOf M u + (r - firstOf M u) ≡ r = omega arith in
+      rw z at (party-record e M u (r - firstOf M u) h (omega (arith, first-step M u)))
 
   -- its number is one of the file's, and it names the next
-  number-most : (r : ℕ) → r < firstOf M (suc u) → r ≤ recordsOf (canonicalOf M)
-  number-most r b = omega (arith, canonical-records M, first-most M (suc u) h)
+  number-most : (r : ℕ) → r < firstOf M (suc u) → r ≤ recordsOf (canonicalOf e M)
+  number-most r b = omega (arith, canonical-records e M, first-most M (suc u) h)
 
-  names-next : (r : ℕ) → firstOf M u ≤ r → r < firstOf M (suc u) → recordOf (canonicalOf M) r .next ≡ link (firstOf M (suc u)) (suc r)
+  names-next : (r : ℕ) → firstOf M u ≤ r → r < firstOf M (suc u) → recordOf (canonicalOf e M) r .next ≡ link (firstOf M (suc u)) (suc r)
   names-next r a b = ap (λ (x : Record). x .next) (chain-record r a b)
 
   chain-from : (k r : ℕ) → firstOf M u ≤ r → r ≤ firstOf M (suc u) → firstOf M (suc u) ≤ r + k
-      → chainFrom (canonicalOf M) k (link (firstOf M (suc u)) r) ≡ upFrom r (firstOf M (suc u) - r)
+      → chainFrom (canonicalOf e M) k (link (firstOf M (suc u)) r) ≡ upFrom r (firstOf M (suc u) - r)
   unfolding upFrom
   chain-from zero r a b d =
       let z : firstOf M (suc u) - r ≡ 0 = omega arith in
-      rw (link-past (firstOf M (suc u)) r (omega arith), z) (chain-end (canonicalOf M) 0 0 refl)
+      rw (link-past (firstOf M (suc u)) r (omega arith), z) (chain-end (canonicalOf e M) 0 0 refl)
   chain-from (suc k) r a b d =
       by-cases (decLt r (firstOf M (suc u)))
       (λ g.
       let z : firstOf M (suc u) - r ≡ suc (firstOf M (suc u) - suc r) = omega arith in
       rw (link-inside (firstOf M (suc u)) r g, z)
-      (chain-step (canonicalOf M) k r (λ e. omega arith) (number-most r g)
-      ∙ ap (λ (c : List ℕ). r ∷ c) (ap (chainFrom (canonicalOf M) k) (names-next r a g) ∙ chain-from k (suc r) (omega arith) g (omega arith))))
+      (chain-step (canonicalOf e M) k r (λ z. omega arith) (number-most r g)
+      ∙ ap (λ (c : List ℕ). r ∷ c)
+      (ap (chainFrom (canonicalOf e M) k) (names-next r a g) ∙ chain-from k (suc r) (omega arith) g (omega arith))))
       (λ g.
       let z : firstOf M (suc u) - r ≡ 0 = omega arith in
-      rw (link-past (firstOf M (suc u)) r (omega arith), z) (chain-end (canonicalOf M) (suc k) 0 refl))
+      rw (link-past (firstOf M (suc u)) r (omega arith), z) (chain-end (canonicalOf e M) (suc k) 0 refl))
 
-  head-link : headOf (canonicalOf M) u ≡ link (firstOf M (suc u)) (firstOf M u)
-  head-link = canonical-head M u h
+  head-link : headOf (canonicalOf e M) u ≡ link (firstOf M (suc u)) (firstOf M u)
+  head-link = canonical-head e M u h
 
   size : firstOf M (suc u) - firstOf M u ≡ length (entriesOf M u)
   size = omega (arith, first-step M u)
 
   -- party u's chain
-  pub canonical-chain : chainOf (canonicalOf M) u ≡ upFrom (firstOf M u) (length (entriesOf M u))
+  pub canonical-chain : chainOf (canonicalOf e M) u ≡ upFrom (firstOf M u) (length (entriesOf M u))
   unfolding chainOf
   canonical-chain =
-      ap (chainFrom (canonicalOf M) (recordsOf (canonicalOf M))) head-link
-      ∙ chain-from (recordsOf (canonicalOf M)) (firstOf M u) (omega arith) (omega (arith, first-step M u)) (omega (arith, canonical-records M, first-most M (suc u) h))
+      ap (chainFrom (canonicalOf e M) (recordsOf (canonicalOf e M))) head-link
+      ∙ chain-from (recordsOf (canonicalOf e M)) (firstOf M u) (omega arith) (omega (arith, first-step M u))
+      (omega (arith, canonical-records e M, first-most M (suc u) h))
       ∙ ap (upFrom (firstOf M u)) size
 
-  linked-from : (j r : ℕ) → firstOf M u ≤ r → r + j ≡ firstOf M (suc u) → Linked (canonicalOf M) (link (firstOf M (suc u)) r) (upFrom r j)
+  linked-from : (j r : ℕ) → firstOf M u ≤ r → r + j ≡ firstOf M (suc u) → Linked (canonicalOf e M) (link (firstOf M (suc u)) r) (upFrom r j)
   unfolding upFrom
-  linked-from zero r a e = link-past (firstOf M (suc u)) r (omega arith)
-  linked-from (suc j) r a e =
+  linked-from zero r a q = link-past (firstOf M (suc u)) r (omega arith)
+  linked-from (suc j) r a q =
       let g : r < firstOf M (suc u) = omega arith in
       rw (link-inside (firstOf M (suc u)) r g)
       (refl, (omega arith, (number-most r g, rw (names-next r a g) (linked-from j (suc r) (omega arith) (omega arith)))))
 
-  pub canonical-linked : Linked (canonicalOf M) (headOf (canonicalOf M) u) (chainOf (canonicalOf M) u)
-  canonical-linked = rw (canonical-chain, head-link) (linked-from (length (entriesOf M u)) (firstOf M u) (omega arith) (sym (first-step M u)))
+  pub canonical-linked : Linked (canonicalOf e M) (headOf (canonicalOf e M) u) (chainOf (canonicalOf e M) u)
+  canonical-linked =
+      rw (canonical-chain, head-link)
+      (linked-from (length (entriesOf M u)) (firstOf M u) (omega arith) (sym (first-step M u)))
 
   -- a record of the chain by its place in it
   pub record At (r : ℕ) : Type 0 where
     pub place : ℕ
     pub small : place < length (entriesOf M u)
     pub number : r ≡ firstOf M u + place
-    pub says : recordOf (canonicalOf M) r ≡ recordFor (firstOf M (suc u)) r (getD (entriesOf M u) place noEntry)
+    pub says : recordOf (canonicalOf e M) r ≡ recordFor e (firstOf M (suc u)) r (getD (entriesOf M u) place noEntry)
 
-  pub chain-at : (r : ℕ) → List·Memᴰ r (chainOf (canonicalOf M) u) → At r
+  pub chain-at : (r : ℕ) → List·Memᴰ r (chainOf (canonicalOf e M) u) → At r
   chain-at r m =
       let b = up-out (firstOf M u) (length (entriesOf M u)) (rw canonical-chain at m) in
-      record { place = r - firstOf M u; small = omega (arith, b .0, b .1); number = omega (arith, b .0); says = chain-record r (b .0) (omega (arith, b .1, first-step M u)) }
+      record {
+        place = r - firstOf M u;
+        small = omega (arith, b .0, b .1);
+        number = omega (arith, b .0);
+        says = chain-record r (b .0) (omega (arith, b .1, first-step M u));
+      }
 
-  pub at-chain : (i : ℕ) → i < length (entriesOf M u) → List·Memᴰ (firstOf M u + i) (chainOf (canonicalOf M) u)
+  pub at-chain : (i : ℕ) → i < length (entriesOf M u) → List·Memᴰ (firstOf M u + i) (chainOf (canonicalOf e M) u)
   at-chain i g = rw canonical-chain (up-in (firstOf M u) (length (entriesOf M u)) (firstOf M u + i) (omega arith) (omega arith))
 
 -- the party whose chain has record r
-pub canonical-reached : (M : Matter) (r : ℕ) → 1 ≤ r → r ≤ countOf M → (u : ℕ) × ((u < M .parties) × List·Memᴰ r (chainOf (canonicalOf M) u))
+pub canonical-reached : (e : ℕ) (M : Matter) (r : ℕ) → 1 ≤ r → r ≤ countOf M
+    → (u : ℕ) × ((u < M .parties) × List·Memᴰ r (chainOf (canonicalOf e M) u))
 unfolding entriesBelow
-canonical-reached M r a b =
+canonical-reached e M r a b =
     let w = flat-within (entriesOf M) (M .parties) (r - 1) (omega arith) in
     let s = first-step M (w .piece) in
-    (w .piece, (w .small, rw (canonical-chain M (w .piece) (w .small)) (up-in (firstOf M (w .piece)) (length (entriesOf M (w .piece))) r (omega (arith, w .from)) (omega (arith, w .below)))))
+    let m = up-in (firstOf M (w .piece)) (length (entriesOf M (w .piece))) r (omega (arith, w .from)) (omega (arith, w .below)) in
+    (w .piece, (w .small, rw (canonical-chain e M (w .piece) (w .small)) m))

@@ -1,10 +1,10 @@
--- The copy of an accepted file, and the call that writes it: its matter gives back what was written, so equal copies mean equal matter and a copy's copy
--- is the copy. Assumes nothing.
+-- The copy of an accepted file, and the call that writes it: its matter gives back what was written, so equal copies mean equal matter and
+-- a copy's copy is the copy. Assumes nothing.
 use mathlib.Core.Path.{_≡_, sym, ap, _∙_}
 use mathlib.Core.Logic.{_↔_, _⊎_, inl, inr, by-cases}
 use mathlib.Core.Bool.{true}
 use mathlib.Core.List.{List}
-use Prim.Native.Nat.{ℕ, _≤_, _<_}
+use Prim.Native.Nat.{ℕ, _+_, _*_, _≤_, _<_}
 use native.Mathlib.Omega.{arith}
 use native.Mathlib.Decide.{decLt}
 use lib.Dec.{leb}
@@ -12,66 +12,89 @@ use lib.ListN.{length}
 use Rattle.lists.proofs.Cases.{by-test, clash}
 use Rattle.lists.proofs.Distinct.{distinct-equal}
 use Rattle.rebac.specs.Matter.{Matter}
-use Rattle.house_layout.specs.Layout.{labelsOf, recordsOf}
+use Rattle.house_layout.specs.Layout.{partiesOf, labelsOf, recordsOf, recordSize}
 use Rattle.house_layout.specs.declared.reply.Refusal.{Refusal}
 use Rattle.house_layout.specs.declared.reply.Refusal.the-variants.{Output}
 use Rattle.house_layout.specs.declared.reply.Check.the-variants as check
 use Rattle.house_layout.specs.Fields.{legalKind}
-use Rattle.house_layout.specs.Reply.{numberOf}
 use Rattle.house_layout.proofs.RecordLaws.{by-check}
 use Rattle.house_layout.proofs.RefusalNumbers.{refusal-said}
-use Rattle.house_file.proofs.FileRefusals.{file-refusals}
+use Rattle.house_file.proofs.FileRefusals.{OfFile, file-refusals}
 use Rattle.house_file.specs.Check.{checkOf}
-use Rattle.house_file.specs.Meaning.{recorded}
+use Rattle.house_file.specs.Meaning.{IsEdition, recorded}
 use Rattle.house_file.proofs.WellFormedLaws.{accepted-iff-well-formed}
 use Rattle.graph.specs.Archive.{matterOf}
-use Rattle.canonical.specs.Canonical.{countOf, canonicalOf}
-use Rattle.canonical.specs.Calls.{refuses, writes, saidFile, writeIn, writeCall}
-use Rattle.canonical.specs.Shape.{SameMatter, CopyOf}
+use Rattle.canonical.specs.Canonical.{countOf, canonicalOf, writtenEdition}
+use Rattle.canonical.specs.Calls.{refuses, writes, saidFile, writeIn, copyFor, writeCall}
+use Rattle.canonical.specs.Shape.{InLimits, SameMatter, FileFor, CopyOf}
 use Rattle.canonical.specs.declared.reply.FileReply.{FileReply}
 use Rattle.canonical.specs.declared.reply.FileReply.the-variants.{Refused, Wrote}
-use Rattle.canonical.proofs.LayoutLaws.{canonical-size, canonical-labels, canonical-records}
+use Rattle.canonical.proofs.LayoutLaws.{canonical-size, canonical-edition, canonical-labels, canonical-records}
 use Rattle.canonical.proofs.AcceptedLaws.{canonical-well-formed, canonical-accepted}
 use Rattle.canonical.proofs.MatterLaws.{canonical-recorded, canonical-matter}
 use Rattle.canonical.proofs.ShapeLaws.{canonical-shape}
 use Rattle.canonical.proofs.StandsLaws.{short-in, fits-in}
-use Rattle.canonical.proofs.FileLaws.{recordedIn, recorded-length, recorded-distinct, entry-found, found-entry, matter-labels, matter-says, accepted-matter}
+use Rattle.canonical.proofs.FileLaws.{recordedIn, recorded-length, recorded-distinct, entry-found, found-entry}
+use Rattle.canonical.proofs.FileLaws.{matter-parties, matter-labels, matter-says, accepted-matter}
+
+-- the canonical file, in either edition
+pub canonical-file : (e : ℕ) → IsEdition e → (M : Matter) → InLimits M → FileFor e M (canonicalOf e M)
+canonical-file e known M i = record {
+  accepted = canonical-accepted e known M i;
+  header = canonical-edition e M;
+  matter = canonical-matter e M i;
+  shape = canonical-shape e M i;
+}
+
+-- the edition that is written is one
+pub written-known : IsEdition writtenEdition
+written-known = (omega arith, omega arith)
 
 module _ (f : List ℕ) (a : checkOf f ≡ check.Accepted) where
   -- the copy records what the file does
-  copy-recorded : (u v k : ℕ) → legalKind (labelsOf f) k ≡ true → recorded (canonicalOf (matterOf f)) u v k ≡ recorded f u v k
-  copy-recorded u v k l = canonical-recorded (matterOf f) (accepted-matter f a) u v k (rw (matter-labels f) l) ∙ matter-says f u v k l
+  copy-recorded : (u v k : ℕ) → legalKind (labelsOf f) k ≡ true
+      → recorded (canonicalOf writtenEdition (matterOf f)) u v k ≡ recorded f u v k
+  copy-recorded u v k l =
+      canonical-recorded writtenEdition (matterOf f) (accepted-matter f a) u v k (rw (matter-labels f) l) ∙ matter-says f u v k l
 
   -- an accepted file's R is the number of its entries
   pub accepted-count : recordsOf f ≡ countOf (matterOf f)
   accepted-count =
-      let c : List ℕ = canonicalOf (matterOf f) in
+      let c : List ℕ = canonicalOf writtenEdition (matterOf f) in
       let w = accepted-iff-well-formed f .0 a in
-      let y = canonical-well-formed (matterOf f) (accepted-matter f a) in
-      let z : labelsOf c ≡ labelsOf f = canonical-labels (matterOf f) ∙ matter-labels f in
+      let y = canonical-well-formed writtenEdition written-known (matterOf f) (accepted-matter f a) in
+      let z : labelsOf c ≡ labelsOf f = canonical-labels writtenEdition (matterOf f) ∙ matter-labels f in
       sym (recorded-length f w)
       ∙ distinct-equal (recordedIn f) (recordedIn c) (recorded-distinct f w) (recorded-distinct c y)
-      (λ e m. let o = entry-found f w e m in found-entry c y (e .owner) (e .target) (e .kind) (copy-recorded (e .owner) (e .target) (e .kind) (o .legal) ∙ o .found))
-      (λ e m. let o = entry-found c y e m in found-entry f w (e .owner) (e .target) (e .kind) (sym (copy-recorded (e .owner) (e .target) (e .kind) (rw z at (o .legal))) ∙ o .found))
+      (λ e m.
+      let o = entry-found f w e m in
+      found-entry c y (e .owner) (e .target) (e .kind)
+      (copy-recorded (e .owner) (e .target) (e .kind) (o .legal) ∙ o .found))
+      (λ e m.
+      let o = entry-found c y e m in
+      found-entry f w (e .owner) (e .target) (e .kind)
+      (sym (copy-recorded (e .owner) (e .target) (e .kind) (rw z at (o .legal))) ∙ o .found))
       ∙ recorded-length c y
-      ∙ canonical-records (matterOf f)
+      ∙ canonical-records writtenEdition (matterOf f)
 
-  -- so the copy has the file's own length
-  pub copy-size : length (canonicalOf (matterOf f)) ≡ length f
-  unfolding matterOf
-  copy-size = canonical-size (matterOf f) ∙ omega (arith, accepted-count, accepted-iff-well-formed f .0 a .size)
+  -- so the length of a canonical file of its matter follows from the file's own numbers
+  pub canonical-length : (e : ℕ) → length (canonicalOf e (matterOf f)) ≡ 8 + 2 * partiesOf f + recordSize e * recordsOf f
+  canonical-length e =
+      canonical-size e (matterOf f)
+      ∙ ap (λ (n : ℕ). 8 + 2 * n + recordSize e * countOf (matterOf f)) (matter-parties f)
+      ∙ ap (λ (r : ℕ). 8 + 2 * partiesOf f + recordSize e * r) (sym accepted-count)
 
-  pub copied : CopyOf f (canonicalOf (matterOf f))
-  copied = record {
-    accepted = canonical-accepted (matterOf f) (accepted-matter f a);
-    matter = canonical-matter (matterOf f) (accepted-matter f a);
-    size = copy-size;
-    shape = canonical-shape (matterOf f) (accepted-matter f a);
-  }
+  pub copy-size : length (copyFor f) ≡ 8 + 2 * partiesOf f + 5 * recordsOf f
+  unfolding copyFor recordSize
+  copy-size = canonical-length writtenEdition
+
+  pub copied : CopyOf f (copyFor f)
+  unfolding copyFor
+  copied = record { file = canonical-file writtenEdition written-known (matterOf f) (accepted-matter f a); size = copy-size }
 
 -- equal matters, field by field
 module _ (f g : List ℕ) where
-  same-matter : SameMatter f g → matterOf f ≡ matterOf g
+  pub same-matter : SameMatter f g → matterOf f ≡ matterOf g
   unfolding matterOf
   same-matter s = λ j. record {
     parties = s .parties j;
@@ -99,11 +122,13 @@ module _ (f g : List ℕ) where
       permits = λ u v. ap (λ (M : Matter). M .permit u v) e;
     }
 
-    -- "Two accepted files with equal header fields, relations and permits give equal bytes, and unequal ones don't."
-    pub copies-equal : (canonicalOf (matterOf f) ≡ canonicalOf (matterOf g)) ↔ SameMatter f g
+    -- 02, Ticket 1: "Two accepted files with equal header fields, relations and permits give equal bytes, and unequal
+    -- ones don't."; of either edition
+    pub copies-equal : (copyFor f ≡ copyFor g) ↔ SameMatter f g
+    unfolding copyFor
     copies-equal = (
-      λ e. matter-same (sym (copied f a .matter) ∙ ap matterOf e ∙ copied g b .matter),
-      λ s. ap canonicalOf (same-matter s),
+      λ e. matter-same (sym (copied f a .file .matter) ∙ ap matterOf e ∙ copied g b .file .matter),
+      λ s. ap (canonicalOf writtenEdition) (same-matter s),
     )
 
 -- an answer that writes
@@ -122,21 +147,21 @@ unfolding writeCall
 write-refused f x size e = rw e
 
 module _ (f : List ℕ) (a : checkOf f ≡ check.Accepted) where
-  write-accepted : (size : ℕ) → writeCall f size ≡ writeIn (matterOf f) size
+  write-accepted : (size : ℕ) → writeCall f size ≡ writeIn (copyFor f) size
   unfolding writeCall
   write-accepted size = rw a
 
-  -- 14 where the output is shorter than the file
-  pub write-short : (size : ℕ) → size < length f → writeCall f size ≡ refuses Output
-  write-short size h = write-accepted size ∙ short-in (matterOf f) size (omega (arith, copy-size f a))
+  -- 14 where the output is shorter than the copy
+  pub write-short : (size : ℕ) → size < 8 + 2 * partiesOf f + 5 * recordsOf f → writeCall f size ≡ refuses Output
+  write-short size h = write-accepted size ∙ short-in (copyFor f) size (omega (arith, copy-size f a))
 
-  pub write-fits : (size : ℕ) → length f ≤ size → writeCall f size ≡ writes (canonicalOf (matterOf f))
-  write-fits size h = write-accepted size ∙ fits-in (matterOf f) size (omega (arith, copy-size f a))
+  pub write-fits : (size : ℕ) → 8 + 2 * partiesOf f + 5 * recordsOf f ≤ size → writeCall f size ≡ writes (copyFor f)
+  write-fits size h = write-accepted size ∙ fits-in (copyFor f) size (omega (arith, copy-size f a))
 
   -- what the call wrote is the copy
-  written-is : (size : ℕ) (c : List ℕ) → writeCall f size ≡ writes c → canonicalOf (matterOf f) ≡ c
+  written-is : (size : ℕ) (c : List ℕ) → writeCall f size ≡ writes c → copyFor f ≡ c
   written-is size c e =
-      by-cases (decLt size (length f))
+      by-cases (decLt size (8 + 2 * partiesOf f + 5 * recordsOf f))
       (λ h. absurd (apart (sym (write-short size h) ∙ e)))
       (λ h. written (sym (write-fits size (omega arith)) ∙ e))
 
@@ -146,21 +171,24 @@ module _ (f : List ℕ) (a : checkOf f ≡ check.Accepted) where
 -- "Writing the written file again changes nothing.": the same bytes, and 14 for the same outputs
 pub write-again : (f : List ℕ) → checkOf f ≡ check.Accepted → (size : ℕ) (c : List ℕ) → writeCall f size ≡ writes c → (j : ℕ)
     → (length c ≤ j → writeCall c j ≡ writes c) × (j < length c → writeCall c j ≡ refuses Output)
+unfolding copyFor
 write-again f a size c e j =
-    let k = write-copies f a size c e in
-    let z : canonicalOf (matterOf c) ≡ c = ap canonicalOf (k .matter) ∙ written-is f a size c e in
-    (λ h. write-fits c (k .accepted) j h ∙ ap writes z, λ h. write-short c (k .accepted) j h)
+    let k = write-copies f a size c e .file in
+    let p : copyFor c ≡ c = ap (canonicalOf writtenEdition) (k .matter) ∙ written-is f a size c e in
+    let l : length c ≡ 8 + 2 * partiesOf c + 5 * recordsOf c = ap length (sym p) ∙ copy-size c (k .accepted) in
+    (λ h. write-fits c (k .accepted) j (omega arith) ∙ ap writes p, λ h. write-short c (k .accepted) j (omega arith))
 
--- the file's refusals, 1 to 8, and 14; no other
-pub write-refusals : (f : List ℕ) (size : ℕ) (x : Refusal) → writeCall f size ≡ refuses x → (numberOf x ≤ 8) ⊎ (x ≡ Output)
+-- the file's refusals, 1 to 8 and 15, and 14; no other
+pub write-refusals : (f : List ℕ) (size : ℕ) (x : Refusal) → writeCall f size ≡ refuses x → OfFile x ⊎ (x ≡ Output)
 unfolding writeCall writeIn
 write-refusals f size x e =
     by-check (checkOf f)
-    (λ q. by-test (leb (length (canonicalOf (matterOf f))) size) (λ t. absurd (apart (sym (rw (q, t) at e)))) (λ t. inr (refused (sym (rw (q, t) at e)))))
+    (λ q. by-test (leb (length (copyFor f)) size) (λ t. absurd (apart (sym (rw (q, t) at e)))) (λ t. inr (refused (sym (rw (q, t) at e)))))
     (λ y q. inl (file-refusals f x (q ∙ ap check.Refused (refused (rw q at e)))))
 
 -- the same over the calls: what two calls wrote is equal exactly where the files say the same
-pub written-equal : (f g : List ℕ) → checkOf f ≡ check.Accepted → checkOf g ≡ check.Accepted → (j k : ℕ) → length f ≤ j → length g ≤ k
+pub written-equal : (f g : List ℕ) → checkOf f ≡ check.Accepted → checkOf g ≡ check.Accepted → (j k : ℕ)
+    → 8 + 2 * partiesOf f + 5 * recordsOf f ≤ j → 8 + 2 * partiesOf g + 5 * recordsOf g ≤ k
     → (writeCall f j ≡ writeCall g k) ↔ SameMatter f g
 written-equal f g a b j k h l = (
   λ e. copies-equal f g a b .0 (written (sym (write-fits f a j h) ∙ e ∙ write-fits g b k l)),

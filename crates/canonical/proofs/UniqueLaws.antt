@@ -1,5 +1,5 @@
--- The shape leaves no choice: an accepted file in shape has, chain by chain, the entries of its matter in order, so its heads, its records and then its bytes
--- are the canonical file's. Assumes nothing.
+-- The shape leaves no choice: an accepted file in shape has, chain by chain, the entries of its matter in order, so its heads, its records
+-- and then its bytes are the canonical file's. Assumes nothing.
 use mathlib.Core.Path.{_≡_, sym, ap, _∙_}
 use mathlib.Core.Logic.{by-cases}
 use mathlib.Core.Bool.{true}
@@ -10,14 +10,15 @@ use native.Mathlib.Decide.{decLt}
 use lib.ListN.{length, getD}
 use lib.Seq.{ext-getD}
 use Rattle.lists.specs.Lists.{flatMap, range, upFrom}
-use Rattle.lists.proofs.ListLaws.{map-in, map-out, up-length}
+use Rattle.lists.proofs.ListLaws.{map-in, map-out, up-in, up-length}
 use Rattle.lists.proofs.OrderLaws.{ascending-equal, length-map}
 use Rattle.lists.proofs.Pieces.{getD-map, up-at, flat-lengths, flat-within}
 use Rattle.fields.specs.Numbers.{byteAt, u16At, Bytes}
 use Rattle.fields.proofs.NumberLaws.{u16-same}
 use Rattle.rebac.specs.Matter.{Matter, pair}
 use Rattle.rebac.proofs.PairsLaws.{pair-one-way}
-use Rattle.house_layout.specs.Layout.{partiesOf, labelsOf, recordsOf, headOf, placeOf, recordOf}
+use Rattle.house_layout.specs.Layout.{editionOf, partiesOf, labelsOf, recordsOf, headOf, recordSize, ownerIn, placeOf, recordOf}
+use Rattle.house_layout.proofs.LayoutLaws.{size-most, piece-of, owner-apart}
 use Rattle.house_layout.specs.declared.record.Record.{Record}
 use Rattle.house_layout.specs.declared.reply.Check.the-variants.{Accepted}
 use Rattle.house_layout.specs.Fields.{legalKind}
@@ -25,15 +26,17 @@ use Rattle.house_layout.proofs.RecordLaws.{kind-legal}
 use Rattle.house_file.specs.Check.{checkOf}
 use Rattle.house_file.specs.Meaning.{chainOf, recorded, Linked, WellFormed}
 use Rattle.house_file.proofs.WellFormedLaws.{accepted-iff-well-formed}
+use Rattle.house_file.proofs.OwnerLaws.{owner-said}
 use Rattle.graph.specs.Archive.{matterOf}
 use Rattle.canonical.specs.Canonical.{Entry, saysKind, entriesOf, entriesBelow, firstOf, link, canonicalOf, recordFor}
 use Rattle.canonical.specs.Shape.{entryBefore, entryIn, InShape}
 use Rattle.canonical.proofs.LayoutLaws.{noEntry, first-step, party-record, canonical-edition, canonical-zero}
-use Rattle.canonical.proofs.LayoutLaws.{canonical-parties, canonical-labels, canonical-language, canonical-longest, canonical-records, canonical-head}
+use Rattle.canonical.proofs.LayoutLaws.{canonical-parties, canonical-labels}
+use Rattle.canonical.proofs.LayoutLaws.{canonical-language, canonical-longest, canonical-records, canonical-head}
 use Rattle.canonical.proofs.EntryLaws.{entry-in, entry-out, entries-ascending}
 use Rattle.canonical.proofs.ChainLaws.{link-inside, link-past}
 use Rattle.canonical.proofs.FileLaws.{recorded-in, recorded-out, matter-parties, matter-labels, matter-says, accepted-matter}
-use Rattle.canonical.proofs.CopyLaws.{accepted-count, copy-size}
+use Rattle.canonical.proofs.CopyLaws.{accepted-count, canonical-length}
 use Rattle.canonical.proofs.ByteLaws.{canonical-bytes}
 
 -- of two entries at most one is before the other
@@ -62,6 +65,9 @@ module _ (f : List ℕ) (a : checkOf f ≡ Accepted) (s : InShape f) where
   M : Matter
   M = matterOf f
 
+  edition : ℕ
+  edition = editionOf f
+
   parties-of : M .parties ≡ partiesOf f
   unfolding M
   parties-of = matter-parties f
@@ -83,12 +89,16 @@ module _ (f : List ℕ) (a : checkOf f ≡ Accepted) (s : InShape f) where
     chain-said e m =
         let r = map-out (entryIn f u) (chainOf f u) m in
         let l : legalKind (labelsOf f) (recordOf f (r .0) .kind) ≡ true = kind-legal (labelsOf f) _ (w .kind u (r .0) h (r .1)) in
-        rw (r .2) (entry-in M u _ _ (rw parties-of (w .target u (r .0) h (r .1) .0)) (rw labels-of l) (said-recorded u _ _ l ∙ recorded-in f u (r .0) h (r .1)))
+        rw (r .2)
+        (entry-in M u _ _ (rw parties-of (w .target u (r .0) h (r .1) .0))
+        (rw labels-of l) (said-recorded u _ _ l ∙ recorded-in f u (r .0) h (r .1)))
 
     said-chain : (e : Entry) → List·Memᴰ e (entriesOf M u) → List·Memᴰ e (map (entryIn f u) (chainOf f u))
     said-chain e m =
         let y = entry-out M u e m in
-        let o = recorded-out f u (e .target) (e .kind) (sym (said-recorded u (e .target) (e .kind) (rw labels-of at (y .legal))) ∙ y .said) in
+        let o =
+        recorded-out f u (e .target) (e .kind)
+        (sym (said-recorded u (e .target) (e .kind) (rw labels-of at (y .legal))) ∙ y .said) in
         let t : recordOf f (o .1 .0) .target ≡ e .target = o .1 .1 .1 .0 in
         let k : recordOf f (o .1 .0) .kind ≡ e .kind = o .1 .1 .1 .1 in
         let z : entryIn f u (o .1 .0) ≡ e = λ j. record { owner = sym (y .owner) j; target = t j; kind = k j } in
@@ -116,11 +126,11 @@ module _ (f : List ℕ) (a : checkOf f ≡ Accepted) (s : InShape f) where
   chain-linked : (u : ℕ) → u < partiesOf f → Linked f (headOf f u) (upFrom (firstOf M u) (length (entriesOf M u)))
   chain-linked u h = rw (chain-numbers u h) at (w .linked u h)
 
-  same-head : (u : ℕ) → u < partiesOf f → headOf f u ≡ headOf (canonicalOf M) u
+  same-head : (u : ℕ) → u < partiesOf f → headOf f u ≡ headOf (canonicalOf edition M) u
   same-head u h =
       head-named f (length (entriesOf M u)) (firstOf M u) (headOf f u) (chain-linked u h)
       ∙ ap (λ (e : ℕ). link e (firstOf M u)) (sym (first-step M u))
-      ∙ sym (canonical-head M u (rw parties-of h))
+      ∙ sym (canonical-head edition M u (rw parties-of h))
 
   same-entry : (u i : ℕ) → u < partiesOf f → i < length (entriesOf M u) → entryIn f u (firstOf M u + i) ≡ getD (entriesOf M u) i noEntry
   same-entry u i h g =
@@ -130,42 +140,58 @@ module _ (f : List ℕ) (a : checkOf f ≡ Accepted) (s : InShape f) where
       ∙ ap (λ (l : List ℕ). getD (map (entryIn f u) l) i noEntry) (sym (chain-numbers u h))
       ∙ ap (λ (l : List Entry). getD l i noEntry) (chain-entries u h)
 
-  record-equal : (u i : ℕ) → u < partiesOf f → i < length (entriesOf M u) → recordOf f (firstOf M u + i) ≡ recordOf (canonicalOf M) (firstOf M u + i)
+  record-equal : (u i : ℕ) → u < partiesOf f → i < length (entriesOf M u)
+      → recordOf f (firstOf M u + i) ≡ recordOf (canonicalOf edition M) (firstOf M u + i)
+  unfolding edition
   record-equal u i h g =
       let e = same-entry u i h g in
+      let m : List·Memᴰ (firstOf M u + i) (chainOf f u) =
+      rw (chain-numbers u h) (up-in (firstOf M u) (length (entriesOf M u)) (firstOf M u + i) (omega arith) (omega arith)) in
+      let o : recordOf f (firstOf M u + i) .owner ≡ ownerIn edition (getD (entriesOf M u) i noEntry .owner) =
+      owner-said f a u (firstOf M u + i) h m ∙ ap (ownerIn edition) (ap (λ (x : Entry). x .owner) e) in
       let t : recordOf f (firstOf M u + i) .target ≡ getD (entriesOf M u) i noEntry .target = ap (λ (x : Entry). x .target) e in
       let k : recordOf f (firstOf M u + i) .kind ≡ getD (entriesOf M u) i noEntry .kind = ap (λ (x : Entry). x .kind) e in
       let n : recordOf f (firstOf M u + i) .next ≡ link (firstOf M (suc u)) (suc (firstOf M u + i)) =
-      next-named f (length (entriesOf M u)) (firstOf M u) (headOf f u) i g (chain-linked u h) ∙ ap (λ (e : ℕ). link e (suc (firstOf M u + i))) (sym (first-step M u)) in
-      let z : recordOf f (firstOf M u + i) ≡ recordFor (firstOf M (suc u)) (firstOf M u + i) (getD (entriesOf M u) i noEntry) = λ j. record { target = t j; kind = k j; next = n j } in
-      z ∙ sym (party-record M u i (rw parties-of h) g)
+      next-named f (length (entriesOf M u)) (firstOf M u) (headOf f u) i g (chain-linked u h)
+      ∙ ap (λ (e : ℕ). link e (suc (firstOf M u + i))) (sym (first-step M u)) in
+      let z : recordOf f (firstOf M u + i) ≡ recordFor edition (firstOf M (suc u)) (firstOf M u + i) (getD (entriesOf M u) i noEntry) =
+      λ j. record { target = t j; kind = k j; next = n j; owner = o j } in
+      z ∙ sym (party-record edition M u i (rw parties-of h) g)
 
-  same-record : (r : ℕ) → 1 ≤ r → r ≤ recordsOf f → recordOf f r ≡ recordOf (canonicalOf M) r
+  same-record : (r : ℕ) → 1 ≤ r → r ≤ recordsOf f → recordOf f r ≡ recordOf (canonicalOf edition M) r
   unfolding entriesBelow M
   same-record r b d =
       let v = flat-within (entriesOf M) (M .parties) (r - 1) (omega (arith, accepted-count f a)) in
       let z : firstOf M (v .piece) + (r - firstOf M (v .piece)) ≡ r = omega (arith, v .from) in
-      rw z at (record-equal (v .piece) (r - firstOf M (v .piece)) (omega (arith, parties-of, v .small)) (omega (arith, v .from, v .below, first-step M (v .piece))))
+      rw z at
+      (record-equal (v .piece) (r - firstOf M (v .piece))
+      (omega (arith, parties-of, v .small)) (omega (arith, v .from, v .below, first-step M (v .piece))))
 
   -- and so are the bytes
   copy : List ℕ
-  copy = canonicalOf M
+  copy = canonicalOf edition M
 
   copy-parties : partiesOf copy ≡ partiesOf f
   unfolding copy
-  copy-parties = canonical-parties M ∙ parties-of
+  copy-parties = canonical-parties edition M ∙ parties-of
+
+  copy-edition : editionOf copy ≡ editionOf f
+  unfolding copy edition
+  copy-edition = canonical-edition edition M
 
   module _ (b : Bytes f) (d : Bytes copy) where
     header-byte : (i : ℕ) → i < 8 → byteAt f i ≡ byteAt copy i
     unfolding M copy matterOf
-    header-byte zero h = w .fields .edition ∙ sym (canonical-edition M)
-    header-byte (suc zero) h = sym (canonical-parties M)
-    header-byte (suc (suc zero)) h = sym (canonical-labels M)
-    header-byte (suc (suc (suc zero))) h = sym (canonical-language M)
-    header-byte (suc (suc (suc (suc zero)))) h = sym (canonical-longest M)
-    header-byte (suc (suc (suc (suc (suc zero))))) h = w .fields .zeroByte ∙ sym (canonical-zero M)
-    header-byte (suc (suc (suc (suc (suc (suc zero)))))) h = u16-same f copy b d 6 (accepted-count f a ∙ sym (canonical-records M)) .0
-    header-byte (suc (suc (suc (suc (suc (suc (suc zero))))))) h = u16-same f copy b d 6 (accepted-count f a ∙ sym (canonical-records M)) .1
+    header-byte zero h = sym copy-edition
+    header-byte (suc zero) h = sym (canonical-parties edition M)
+    header-byte (suc (suc zero)) h = sym (canonical-labels edition M)
+    header-byte (suc (suc (suc zero))) h = sym (canonical-language edition M)
+    header-byte (suc (suc (suc (suc zero)))) h = sym (canonical-longest edition M)
+    header-byte (suc (suc (suc (suc (suc zero))))) h = w .fields .zeroByte ∙ sym (canonical-zero edition M)
+    header-byte (suc (suc (suc (suc (suc (suc zero)))))) h =
+        u16-same f copy b d 6 (accepted-count f a ∙ sym (canonical-records edition M)) .0
+    header-byte (suc (suc (suc (suc (suc (suc (suc zero))))))) h =
+        u16-same f copy b d 6 (accepted-count f a ∙ sym (canonical-records edition M)) .1
     header-byte (suc (suc (suc (suc (suc (suc (suc (suc i)))))))) h = absurd (omega arith)
 
     head-byte : (u j : ℕ) → u < partiesOf f → j < 2 → byteAt f (8 + 2 * u + j) ≡ byteAt copy (8 + 2 * u + j)
@@ -177,15 +203,15 @@ module _ (f : List ℕ) (a : checkOf f ≡ Accepted) (s : InShape f) where
     -- record q + 1 stands at this place
     module _ (q : ℕ) (h : q < recordsOf f) where
       at : ℕ
-      at = 8 + 2 * partiesOf f + 4 * q
+      at = 8 + 2 * partiesOf f + recordSize edition * q
 
       place-file : placeOf f (suc q) ≡ at
-      unfolding at
+      unfolding at edition
       place-file = let z : suc q - 1 ≡ q = omega arith in rw z
 
       place-copy : placeOf copy (suc q) ≡ at
-      unfolding at
-      place-copy = let z : suc q - 1 ≡ q = omega arith in rw (z, copy-parties)
+      unfolding at edition
+      place-copy = let z : suc q - 1 ≡ q = omega arith in rw (z, copy-parties, copy-edition)
 
       same : recordOf f (suc q) ≡ recordOf copy (suc q)
       unfolding copy
@@ -203,30 +229,42 @@ module _ (f : List ℕ) (a : checkOf f ≡ Accepted) (s : InShape f) where
       unfolding recordOf
       next-field = rw (place-file, place-copy) at (ap (λ (x : Record). x .next) same)
 
-      record-byte : (j : ℕ) → j < 4 → byteAt f (at + j) ≡ byteAt copy (at + j)
+      -- the byte after them, where the edition has it
+      owner-byte : 4 < recordSize edition → byteAt f (at + 4) ≡ byteAt copy (at + 4)
+      unfolding recordOf edition
+      owner-byte g = owner-apart (editionOf f) _ _ g (rw (place-file, place-copy, copy-edition) at (ap (λ (x : Record). x .owner) same))
+
+      record-byte : (j : ℕ) → j < recordSize edition → byteAt f (at + j) ≡ byteAt copy (at + j)
       record-byte zero g = let z : at + 0 ≡ at = omega arith in rw z target-byte
       record-byte (suc zero) g = kind-byte
       record-byte (suc (suc zero)) g = u16-same f copy b d (at + 2) next-field .0
-      record-byte (suc (suc (suc zero))) g = let z : at + 2 + 1 ≡ at + 3 = omega arith in rw z at (u16-same f copy b d (at + 2) next-field .1)
-      record-byte (suc (suc (suc (suc j)))) g = absurd (omega arith)
+      record-byte (suc (suc (suc zero))) g =
+          let z : at + 2 + 1 ≡ at + 3 = omega arith in
+          rw z at (u16-same f copy b d (at + 2) next-field .1)
+      record-byte (suc (suc (suc (suc zero)))) g = owner-byte g
+      record-byte (suc (suc (suc (suc (suc j))))) g = absurd (omega (arith, size-most edition 1))
 
     byte-equal : (i : ℕ) → i < length f → byteAt f i ≡ byteAt copy i
-    unfolding at
+    unfolding at edition
     byte-equal i h =
         by-cases (decLt i 8)
         (λ g. header-byte i g)
         (λ g. by-cases (decLt i (8 + 2 * partiesOf f))
-        (λ k. let z : 8 + 2 * ((i - 8) / 2) + (i - 8) % 2 ≡ i = omega arith in rw z at (head-byte ((i - 8) / 2) ((i - 8) % 2) (omega arith) (omega arith)))
         (λ k.
-        let o : ℕ = i - (8 + 2 * partiesOf f) in
-        let z : 8 + 2 * partiesOf f + 4 * (o / 4) + o % 4 ≡ i = omega arith in
-        rw z at (record-byte (o / 4) (omega (arith, w .size)) (o % 4) (omega arith))))
+        let z : 8 + 2 * ((i - 8) / 2) + (i - 8) % 2 ≡ i = omega arith in
+        rw z at (head-byte ((i - 8) / 2) ((i - 8) % 2) (omega arith) (omega arith)))
+        (λ k.
+        let p = piece-of edition (recordsOf f) (i - (8 + 2 * partiesOf f)) (omega (arith, w .size)) in
+        let z : 8 + 2 * partiesOf f + recordSize edition * p .0 + p .1 .0 ≡ i = omega (arith, p .1 .1 .1 .1) in
+        rw z at (record-byte (p .0) (p .1 .1 .0) (p .1 .0) (p .1 .1 .1 .0))))
 
     whole : f ≡ copy
-    unfolding M copy
-    whole = ext-getD 0 f copy (sym (copy-size f a)) (λ i h. byte-equal i h)
+    unfolding M copy edition
+    whole = ext-getD 0 f copy (w .size ∙ sym (canonical-length f a edition)) (λ i h. byte-equal i h)
 
--- an accepted file in shape is the canonical file of its matter
-pub shape-only : (f : List ℕ) → Bytes f → checkOf f ≡ Accepted → InShape f → f ≡ canonicalOf (matterOf f)
-unfolding M copy
-shape-only f b a s = whole f a s b (canonical-bytes (matterOf f) (accepted-matter f a))
+-- an accepted file in shape is the canonical file of its matter, in its edition
+pub shape-only : (f : List ℕ) → Bytes f → checkOf f ≡ Accepted → InShape f → f ≡ canonicalOf (editionOf f) (matterOf f)
+unfolding M copy edition
+shape-only f b a s =
+    whole f a s b
+    (canonical-bytes (editionOf f) (accepted-iff-well-formed f .0 a .fields .edition) (matterOf f) (accepted-matter f a))

@@ -1,4 +1,5 @@
--- Calls that write a file: what they answer and write. The copy (02, Ticket 1): an accepted file's matter, written again.
+-- Calls that write a file: what they answer and write. The copy (02, Tickets 1 and 2): an accepted file's matter,
+-- written again in edition 2.
 use Prim.Native.Nat.{ℕ}
 use mathlib.Core.List.{List, [], _∷_, _++_}
 use lib.ListN.{length, drop}
@@ -7,10 +8,9 @@ use Rattle.house_file.specs.Check.{checkOf}
 use Rattle.house_layout.specs.Reply.{Said, refusal, values, numberOf}
 use Rattle.house_layout.specs.declared.reply.Refusal.{Refusal}
 use Rattle.house_layout.specs.declared.reply.Refusal.the-variants.{Output}
-use Rattle.rebac.specs.Matter.{Matter}
 use Rattle.graph.specs.Archive.{matterOf}
 use Rattle.graph.specs.Refusals.{unless, afterCheck}
-use Rattle.canonical.specs.Canonical.{canonicalOf}
+use Rattle.canonical.specs.Canonical.{canonicalOf, writtenEdition}
 use Rattle.canonical.specs.declared.reply.FileReply.{FileReply}
 use Rattle.canonical.specs.declared.reply.FileReply.the-variants.{Refused, Wrote}
 
@@ -35,9 +35,13 @@ outputOf (refuses x) old = old
 outputOf (writes l) old = l ++ drop (length l) old
 
 -- "a short output is 14, checked last"
-unfoldable pub writeIn : Matter → ℕ → Answer
-writeIn M size = unless refuses (leb (length (canonicalOf M)) size) Output (writes (canonicalOf M))
+unfoldable pub writeIn : List ℕ → ℕ → Answer
+writeIn file size = unless refuses (leb (length file) size) Output (writes file)
 
--- a file's matter, written to an output of this size
+-- the copy of an accepted file
+unfoldable pub copyFor : List ℕ → List ℕ
+copyFor f = canonicalOf writtenEdition (matterOf f)
+
+-- a file's copy, written to an output of this size
 unfoldable pub writeCall : List ℕ → ℕ → Answer
-writeCall f size = afterCheck refuses (checkOf f) (writeIn (matterOf f) size)
+writeCall f size = afterCheck refuses (checkOf f) (writeIn (copyFor f) size)

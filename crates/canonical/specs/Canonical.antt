@@ -1,5 +1,5 @@
--- The canonical file of a matter (02, Ticket 1): "the same matter with records numbered along the chains, party 0 first, each chain by target and then
--- by kind byte".
+-- The canonical file of a matter, in an edition (02, Tickets 1 and 2): "the same matter with records numbered along
+-- the chains, party 0 first, each chain by target and then by kind byte".
 use Prim.Native.Nat.{ℕ, suc}
 use mathlib.Core.Bool.{Bool}
 use mathlib.Core.List.{List, [], _∷_, _++_, map}
@@ -8,9 +8,11 @@ use lib.Dec.{eqb, ltb}
 use Rattle.lists.specs.Lists.{pick, filterBy, flatMap, range}
 use Rattle.fields.specs.Numbers.{u16Bytes}
 use Rattle.rebac.specs.Matter.{Matter}
-use Rattle.house_layout.specs.Layout.{permitKind}
+use Rattle.house_layout.specs.Layout.{ownerIn, permitKind}
 use Rattle.house_layout.specs.declared.header.Header.{Header}
 use Rattle.house_layout.specs.declared.record.Record.{Record}
+use Rattle.house_layout.specs.declared.record.OwnerByte.{OwnerByte}
+use Rattle.house_layout.specs.declared.record.OwnerByte.the-variants.{Missing, Party}
 
 -- what a record says: its owner's relation of this label to the target, or a permit
 pub record Entry : Type 0 where
@@ -54,32 +56,50 @@ abbrev pub link : ℕ → ℕ → ℕ
 link end r = pick (ltb r end) r 0
 
 -- record r, in a chain that ends before record `end`
-abbrev pub recordFor : ℕ → ℕ → Entry → Record
-recordFor end r e = record { target = e .target; kind = e .kind; next = link end (suc r) }
+abbrev pub recordFor : ℕ → ℕ → ℕ → Entry → Record
+recordFor edition end r e = record { target = e .target; kind = e .kind; next = link end (suc r); owner = ownerIn edition (e .owner) }
 
 -- a chain's records, numbered from r on
-unfoldable pub linked : ℕ → ℕ → List Entry → List Record
-linked end r [] = []
-linked end r (e ∷ es) = recordFor end r e ∷ linked end (suc r) es
+unfoldable pub linked : ℕ → ℕ → ℕ → List Entry → List Record
+linked edition end r [] = []
+linked edition end r (e ∷ es) = recordFor edition end r e ∷ linked edition end (suc r) es
 
 -- party u's records
-unfoldable pub recordsFor : Matter → ℕ → List Record
-recordsFor M u = linked (firstOf M (suc u)) (firstOf M u) (entriesOf M u)
+unfoldable pub recordsFor : ℕ → Matter → ℕ → List Record
+recordsFor edition M u = linked edition (firstOf M (suc u)) (firstOf M u) (entriesOf M u)
 
 -- the bytes of a header (01, "The house file"), of the heads of n parties whose first records are so numbered, and of a record
 unfoldable pub headerBytes : Header → List ℕ
-headerBytes h = 1 ∷ h .parties ∷ h .labels ∷ h .language ∷ h .longest ∷ 0 ∷ u16Bytes (h .records)
+headerBytes h = h .edition ∷ h .parties ∷ h .labels ∷ h .language ∷ h .longest ∷ 0 ∷ u16Bytes (h .records)
 
 unfoldable pub headsBy : (ℕ → ℕ) → ℕ → List ℕ
 headsBy first n = flatMap (λ u. u16Bytes (link (first (suc u)) (first u))) (range n)
 
+abbrev pub ownerBytes : OwnerByte → List ℕ
+ownerBytes Missing = []
+ownerBytes (Party u) = u ∷ []
+
 unfoldable pub recordBytes : Record → List ℕ
-recordBytes r = r .target ∷ r .kind ∷ u16Bytes (r .next)
+recordBytes r = r .target ∷ r .kind ∷ (u16Bytes (r .next) ++ ownerBytes (r .owner))
 
 -- the numbers of M's header
-abbrev pub headerFor : Matter → Header
-headerFor M = record { parties = M .parties; labels = M .labels; language = M .language; longest = M .longest; records = countOf M }
+abbrev pub headerFor : ℕ → Matter → Header
+headerFor e M = record {
+  edition = e;
+  parties = M .parties;
+  labels = M .labels;
+  language = M .language;
+  longest = M .longest;
+  records = countOf M;
+}
 
 -- header, heads, and the records of all parties
-unfoldable pub canonicalOf : Matter → List ℕ
-canonicalOf M = headerBytes (headerFor M) ++ (headsBy (firstOf M) (M .parties) ++ flatMap recordBytes (flatMap (recordsFor M) (range (M .parties))))
+unfoldable pub canonicalOf : ℕ → Matter → List ℕ
+canonicalOf edition M =
+    headerBytes (headerFor edition M)
+    ++ (headsBy (firstOf M) (M .parties)
+    ++ flatMap recordBytes (flatMap (recordsFor edition M) (range (M .parties))))
+
+-- 02, Ticket 2: "The writer of Ticket 1 writes edition 2 from now on, for files of either edition"
+abbrev pub writtenEdition : ℕ
+writtenEdition = 2

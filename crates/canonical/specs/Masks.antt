@@ -13,7 +13,9 @@ use Rattle.house_layout.specs.Fields.{legalKind}
 use Rattle.house_layout.specs.Kinds.{bitOf}
 use Rattle.house_layout.specs.declared.header.Header.{Header}
 use Rattle.house_layout.specs.declared.record.Record.{Record}
-use Rattle.canonical.specs.Canonical.{Entry, entry, kindBytes, saysKind, firstOf, linked, recordBytes, entriesOf, countOf}
+use Rattle.house_layout.specs.declared.record.OwnerByte.the-variants.{Party}
+use Rattle.canonical.specs.Canonical.{Entry, entry, kindBytes, saysKind, firstOf, linked, recordBytes}
+use Rattle.canonical.specs.Canonical.{entriesOf, countOf, writtenEdition}
 use Rattle.canonical.specs.Shape.{InLimits}
 use Rattle.canonical.specs.declared.count.Firsts.{Firsts}
 
@@ -41,13 +43,13 @@ pub record Stands (M : Matter) (h : Header) (k : Table) : Type 0 where
 unfoldable pub kindsIn : ℕ → ℕ → List ℕ
 kindsIn labels mask = filterBy (λ k. testBit mask (bitOf k)) (kindBytes labels)
 
--- the bytes of a chain's records, from record `number` on
+-- the bytes of a chain's records in the edition that is written, from record `number` on
 unfoldable pub chainBytes : ℕ → ℕ → List Entry → List ℕ
-chainBytes end number es = flatMap recordBytes (linked end number es)
+chainBytes end number es = flatMap recordBytes (linked writtenEdition end number es)
 
--- the bytes of one pair's records; none says the owner
-unfoldable pub pairBytes : ℕ → ℕ → ℕ → List ℕ → List ℕ
-pairBytes end number target kinds = chainBytes end number (map (entry 0 target) kinds)
+-- the bytes of one pair's records
+unfoldable pub pairBytes : ℕ → ℕ → ℕ → ℕ → List ℕ → List ℕ
+pairBytes end number owner target kinds = chainBytes end number (map (entry owner target) kinds)
 
 -- the numbers of the first records, and after them the number past the last record
 abbrev pub numbersIn : Firsts → ℕ → ℕ
@@ -56,21 +58,22 @@ numbersIn f u = getD (f .numbers) u 0
 abbrev pub FirstsOf : Matter → Firsts → Type 0
 FirstsOf M f = (u : ℕ) → u ≤ M .parties → numbersIn f u ≡ firstOf M u
 
--- numbers that fit their bytes, and room for them in an output of this size: one record at a place,
+-- numbers that fit their bytes, and room for them in an output of this size: one record at a place, whether it has an owner byte or not,
 pub record RecordFits (x : Record) (at size : ℕ) : Type 0 where
   pub target : x .target < 256
   pub kind : x .kind < 256
   pub next : x .next < 65536
-  pub room : at + 4 ≤ size
+  pub owner : (u : ℕ) → x .owner ≡ Party u → u < 256
+  pub room : at + 5 ≤ size
 
 -- one pair's records from `number` on, in a chain that ends before `end`; record 1 stands at `base`,
-pub record PairFits (target labels mask base number end size : ℕ) : Type 0 where
-  pub party : target < 256
+pub record PairFits (owner target labels mask base number end size : ℕ) : Type 0 where
+  pub parties : (owner < 256) × (target < 256)
   pub few : labels ≤ 8
   pub first : 1 ≤ number
   pub kinds : number + length (kindsIn labels mask) ≤ end
   pub last : end < 65536
-  pub room : base + 4 * (end - 1) ≤ size
+  pub room : base + 5 * (end - 1) ≤ size
 
 -- party u's records,
 pub record PartyFits (h : Header) (k : Table) (u number end size : ℕ) : Type 0 where
@@ -80,7 +83,17 @@ pub record PartyFits (h : Header) (k : Table) (u number end size : ℕ) : Type 0
   pub first : 1 ≤ number
   pub entries : number + length (entriesOf (matterIn h k) u) ≤ end
   pub last : end < 65536
-  pub room : 8 + 2 * h .parties + 4 * (end - 1) ≤ size
+  pub room : 8 + 2 * h .parties + 5 * (end - 1) ≤ size
+
+-- the header,
+pub record HeaderFits (h : Header) (size : ℕ) : Type 0 where
+  pub edition : h .edition < 256
+  pub parties : h .parties < 256
+  pub labels : h .labels < 256
+  pub language : h .language < 256
+  pub longest : h .longest < 256
+  pub records : h .records < 65536
+  pub room : 8 ≤ size
 
 -- the heads,
 pub record HeadsFit (parties : ℕ) (f : Firsts) (size : ℕ) : Type 0 where
@@ -88,12 +101,13 @@ pub record HeadsFit (parties : ℕ) (f : Firsts) (size : ℕ) : Type 0 where
   pub numbers : (u : ℕ) → u ≤ parties → numbersIn f u < 65536
   pub room : 8 + 2 * parties ≤ size
 
--- and the whole file, whose header has its number of records
+-- and the whole file, whose header has the edition that is written and its number of records
 pub record FileFits (h : Header) (k : Table) (f : Firsts) (size : ℕ) : Type 0 where
+  pub edition : h .edition ≡ writtenEdition
   pub parties : h .parties ≤ 32
   pub labels : h .labels ≤ 8
   pub language : h .language < 256
   pub longest : h .longest < 256
   pub records : h .records ≡ countOf (matterIn h k)
   pub firsts : FirstsOf (matterIn h k) f
-  pub room : 8 + 2 * h .parties + 4 * h .records ≤ size
+  pub room : 8 + 2 * h .parties + 5 * h .records ≤ size

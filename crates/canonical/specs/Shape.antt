@@ -1,5 +1,5 @@
 -- What the writer is held to, in plain terms: matters in 01's limits, the order of a file's records, and files that say the same.
-use Prim.Native.Nat.{ℕ, suc, _<_}
+use Prim.Native.Nat.{ℕ, suc, _+_, _*_, _<_}
 use mathlib.Core.Path.{_≡_}
 use mathlib.Core.Bool.{Bool, true, _&&_, _||_}
 use mathlib.Core.List.{List, map}
@@ -8,12 +8,12 @@ use lib.Dec.{eqb, ltb}
 use Rattle.lists.specs.Lists.{flatMap, range, upFrom}
 use Rattle.lists.specs.Order.{Ascending}
 use Rattle.rebac.specs.Matter.{Matter, pair, IsPair}
-use Rattle.house_layout.specs.Layout.{partiesOf, labelsOf, languageOf, longestOf, recordsOf, recordOf}
+use Rattle.house_layout.specs.Layout.{editionOf, partiesOf, labelsOf, languageOf, longestOf, recordsOf, recordOf}
 use Rattle.house_file.specs.Meaning.{chainOf, isEdge, isPermitted}
 use Rattle.house_file.specs.Check.{checkOf}
 use Rattle.house_layout.specs.declared.reply.Check.the-variants.{Accepted}
 use Rattle.graph.specs.Archive.{Limits, matterOf}
-use Rattle.canonical.specs.Canonical.{Entry, entry}
+use Rattle.canonical.specs.Canonical.{Entry, entry, writtenEdition}
 
 -- a matter that a file can have: 01's limits, and relations and permits only between two different parties, of labels below L
 pub record InLimits (M : Matter) : Type 0 where
@@ -35,7 +35,7 @@ pub record InShape (f : List ℕ) : Type 0 where
   pub numbered : (u : ℕ) → u < partiesOf f → chainOf f u ≡ upFrom (suc (length (flatMap (chainOf f) (range u)))) (length (chainOf f u))
   pub ascending : (u : ℕ) → u < partiesOf f → Ascending entryBefore (map (entryIn f u) (chainOf f u))
 
--- "equal header fields, relations and permits"
+-- "equal header fields, relations and permits"; the "comparison leaves the edition byte out" (02, Ticket 2)
 pub record SameMatter (f g : List ℕ) : Type 0 where
   pub parties : partiesOf f ≡ partiesOf g
   pub labels : labelsOf f ≡ labelsOf g
@@ -45,9 +45,14 @@ pub record SameMatter (f g : List ℕ) : Type 0 where
   pub edges : (u v l : ℕ) → isEdge f u v l ≡ isEdge g u v l
   pub permits : (u v : ℕ) → isPermitted f u v ≡ isPermitted g u v
 
--- c is accepted, has f's matter and its length, and is in shape
-pub record CopyOf (f c : List ℕ) : Type 0 where
+-- c is accepted, of this edition, has this matter and is in shape
+pub record FileFor (edition : ℕ) (M : Matter) (c : List ℕ) : Type 0 where
   pub accepted : checkOf c ≡ Accepted
-  pub matter : matterOf c ≡ matterOf f
-  pub size : length c ≡ length f
+  pub header : editionOf c ≡ edition
+  pub matter : matterOf c ≡ M
   pub shape : InShape c
+
+-- c is such a file for f's matter, in the edition that is written; its length follows from f's numbers
+pub record CopyOf (f c : List ℕ) : Type 0 where
+  pub file : FileFor writtenEdition (matterOf f) c
+  pub size : length c ≡ 8 + 2 * partiesOf f + 5 * recordsOf f

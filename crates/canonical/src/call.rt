@@ -1,4 +1,4 @@
-// The writer's call (02, Ticket 1): any bytes and a lent output in.
+// The writer's call (02, Tickets 1 and 2): any bytes and a lent output in.
 ghost use mathlib.Core.Path.{_≡_};
 ghost use lib.ListN.{length};
 ghost use Rattle.canonical.specs.Calls.{replyOf, outputOf, writeCall};
@@ -6,7 +6,7 @@ use crate::reply::FileReply;
 use crate::write::write_matter;
 use house_layout::Check;
 
-// Writes an accepted file's matter again, in the canonical order.
+// Writes an accepted file's matter again, in the canonical order and in edition 2.
 pub fn write_call(file: &[u8], out: &mut [u8]) -> FileReply
     ensures { λ r. ⌜ (r ≡ replyOf (writeCall (now (file .entry)) (length (now (out .entry)))))
         × (now (out .exit) ≡ outputOf (writeCall (now (file .entry)) (length (now (out .entry)))) (now (out .entry))) ⌝ }

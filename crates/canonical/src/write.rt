@@ -5,8 +5,10 @@ ghost use lib.ListN.{length};
 ghost use Rattle.lists.specs.Lists.{flatMap, range};
 ghost use Rattle.fields.specs.Writing.{put};
 ghost use Rattle.rebac.specs.Matter.{Matter};
-ghost use Rattle.canonical.specs.Canonical.{entriesOf, link, recordsFor, headerBytes, headsBy, recordBytes, canonicalOf};
-ghost use Rattle.canonical.specs.Masks.{matterIn, Stands, kindsIn, chainBytes, pairBytes, numbersIn, RecordFits, PairFits, PartyFits, HeadsFit, FileFits};
+ghost use Rattle.canonical.specs.Canonical.{entriesOf, link, recordsFor, headerBytes, headsBy, recordBytes};
+ghost use Rattle.canonical.specs.Canonical.{canonicalOf, writtenEdition};
+ghost use Rattle.canonical.specs.Masks.{matterIn, Stands, kindsIn, chainBytes, pairBytes, numbersIn, RecordFits, PairFits, PartyFits};
+ghost use Rattle.canonical.specs.Masks.{HeaderFits, HeadsFit, FileFits};
 ghost use Rattle.canonical.specs.Calls.{replyOf, outputOf, writeIn};
 use crate::count::Firsts;
 use crate::count::first_numbers;
@@ -15,6 +17,7 @@ use crate::count::says_at;
 use crate::reply::FileReply;
 use fields::put_u16;
 use house_layout::Header;
+use house_layout::OwnerByte;
 use house_layout::Record;
 use house_layout::Refusal;
 use masks::Table;
@@ -36,21 +39,29 @@ fn put_record(out: &mut [u8], at: usize, x: Record)
     out[at] = x.target as u8;
     out[at + 1] = x.kind as u8;
     put_u16(out, at + 2, x.next);
+    let owner = x.owner;
+    match owner {
+        OwnerByte::Missing => {}
+        OwnerByte::Party(u) => {
+            out[at + 4] = u as u8;
+        }
+    }
 }
 
 // The records of one pair, from record `number` on, and the number after them. `base` is the place of record 1.
 fn put_pair(
     out: &mut [u8],
     base: usize,
+    owner: usize,
     target: usize,
     labels: usize,
     mask: u32,
     number: usize,
     end: usize,
 ) -> usize
-    requires { ⌜ PairFits target labels mask base number end (length (now out)) ⌝ }
+    requires { ⌜ PairFits owner target labels mask base number end (length (now out)) ⌝ }
     ensures { λ r. ⌜ (r ≡ number + length (kindsIn labels mask))
-        × (now (out .exit) ≡ put (now (out .entry)) (base + 4 * (number - 1)) (pairBytes end number target (kindsIn labels mask))) ⌝ }
+        × (now (out .exit) ≡ put (now (out .entry)) (base + 5 * (number - 1)) (pairBytes end number owner target (kindsIn labels mask))) ⌝ }
 {
     let mut next = number;
     let mut place = 0;
@@ -60,8 +71,9 @@ fn put_pair(
                 target,
                 kind: kind_at(labels, place),
                 next: link_to(end, next + 1),
+                owner: OwnerByte::Party(owner),
             };
-            put_record(out, base + 4 * (next - 1), x);
+            put_record(out, base + 5 * (next - 1), x);
             next += 1;
         }
         place += 1;
@@ -72,14 +84,15 @@ fn put_pair(
 // Party u's records, from record `number` on.
 fn put_party(out: &mut [u8], h: Header, kinds: Table, u: usize, number: usize, end: usize)
     requires { ⌜ PartyFits h kinds u number end (length (now out)) ⌝ }
-    ensures { λ _. ⌜ now (out .exit) ≡ put (now (out .entry)) (8 + 2 * h .parties + 4 * (number - 1)) (chainBytes end number (entriesOf (matterIn h kinds) u)) ⌝ }
+    ensures { λ _. ⌜ now (out .exit)
+        ≡ put (now (out .entry)) (8 + 2 * h .parties + 5 * (number - 1)) (chainBytes end number (entriesOf (matterIn h kinds) u)) ⌝ }
 {
     let base = 8 + 2 * h.parties;
     let row = kinds.rows[u];
     let mut next = number;
     let mut v = 0;
     while v < h.parties {
-        next = put_pair(out, base, v, h.labels, row.masks[v], next, end);
+        next = put_pair(out, base, u, v, h.labels, row.masks[v], next, end);
         v += 1;
     }
 }
@@ -87,7 +100,8 @@ fn put_party(out: &mut [u8], h: Header, kinds: Table, u: usize, number: usize, e
 // The records of all parties.
 fn put_records(out: &mut [u8], h: Header, kinds: Table, f: Firsts)
     requires { ⌜ FileFits h kinds f (length (now out)) ⌝ }
-    ensures { λ _. ⌜ now (out .exit) ≡ put (now (out .entry)) (8 + 2 * h .parties) (flatMap recordBytes (flatMap (recordsFor (matterIn h kinds)) (range (h .parties)))) ⌝ }
+    ensures { λ _. ⌜ now (out .exit) ≡ put (now (out .entry)) (8 + 2 * h .parties)
+        (flatMap recordBytes (flatMap (recordsFor writtenEdition (matterIn h kinds)) (range (h .parties)))) ⌝ }
 {
     let mut u = 0;
     while u < h.parties {
@@ -109,10 +123,10 @@ fn put_heads(out: &mut [u8], parties: usize, f: Firsts)
 }
 
 fn put_header(out: &mut [u8], h: Header)
-    requires { ⌜ (h .parties < 256) × ((h .labels < 256) × ((h .language < 256) × ((h .longest < 256) × ((h .records < 65536) × (8 ≤ length (now out)))))) ⌝ }
+    requires { ⌜ HeaderFits h (length (now out)) ⌝ }
     ensures { λ _. ⌜ now (out .exit) ≡ put (now (out .entry)) 0 (headerBytes h) ⌝ }
 {
-    out[0] = 1;
+    out[0] = h.edition as u8;
     out[1] = h.parties as u8;
     out[2] = h.labels as u8;
     out[3] = h.language as u8;
@@ -124,27 +138,29 @@ fn put_header(out: &mut [u8], h: Header)
 // The whole file.
 fn put_file(out: &mut [u8], h: Header, kinds: Table, f: Firsts)
     requires { ⌜ FileFits h kinds f (length (now out)) ⌝ }
-    ensures { λ _. ⌜ now (out .exit) ≡ put (now (out .entry)) 0 (canonicalOf (matterIn h kinds)) ⌝ }
+    ensures { λ _. ⌜ now (out .exit) ≡ put (now (out .entry)) 0 (canonicalOf writtenEdition (matterIn h kinds)) ⌝ }
 {
     put_header(out, h);
     put_heads(out, h.parties, f);
     put_records(out, h, kinds, f);
 }
 
-// Writes the canonical file of the matter that the header's numbers and the masks of kinds stand for. The header's R does not matter.
+// Writes the canonical file, in edition 2, of the matter that the header's numbers and the masks of kinds stand for.
+// The header's edition and R do not matter.
 pub fn write_matter(h: Header, kinds: Table, out: &mut [u8]) -> FileReply
     requires { ⌜ ((M : Matter) × Stands M h kinds) ⌝ }
-    ensures { λ r. ⌜ ((M : Matter) → Stands M h kinds → (r ≡ replyOf (writeIn M (length (now (out .entry)))))
-        × (now (out .exit) ≡ outputOf (writeIn M (length (now (out .entry)))) (now (out .entry)))) ⌝ }
+    ensures { λ r. ⌜ ((M : Matter) → Stands M h kinds → (r ≡ replyOf (writeIn (canonicalOf writtenEdition M) (length (now (out .entry)))))
+        × (now (out .exit) ≡ outputOf (writeIn (canonicalOf writtenEdition M) (length (now (out .entry)))) (now (out .entry)))) ⌝ }
 {
     let n = h.parties;
     let f = first_numbers(h, kinds);
     let records = f.numbers[n] - 1;
-    let size = 8 + 2 * n + 4 * records;
+    let size = 8 + 2 * n + 5 * records;
     if out.len() < size {
         return FileReply::Refused(Refusal::Output);
     }
     let counted = Header {
+        edition: 2,
         parties: n,
         labels: h.labels,
         language: h.language,

@@ -2,6 +2,7 @@
 use mathlib.Core.Path.{_≡_, refl, sym, ap, _∙_}
 use mathlib.Core.Bool.{Bool, true, false, _&&_}
 use mathlib.Core.List.{List}
+use mathlib.Core.Logic.{_⊎_, ⊎-elim}
 use Prim.Native.Nat.{ℕ, _/_, _%_, _≤_, _<_}
 use native.Mathlib.Omega.{arith}
 use lib.ListN.{length}
@@ -15,11 +16,11 @@ use Rattle.rebac.specs.Verdict.{convertible, verdict, isConvertible}
 use Rattle.rebac.specs.Mining.{mine}
 use Rattle.rebac.specs.Existence.{problemOf, verdictOf, minedList, permitsPair}
 use Rattle.rebac.proofs.Conversion.{permits-one, mined-ones}
-use Rattle.house_layout.specs.Reply.{numberOf}
 use Rattle.house_layout.specs.declared.reply.Check.the-variants as check
-use Rattle.house_layout.specs.declared.reply.Refusal.the-variants.{Length, Field, Link, Again, Unreached, Target, Kind, Repeat, RuleList, PartyPair, GivenWord, Scratch, Inconvertible, Output}
+use Rattle.house_layout.specs.declared.reply.Refusal.the-variants.{Length, Field, Link, Again, Unreached, Owner, Target, Kind, Repeat}
+use Rattle.house_layout.specs.declared.reply.Refusal.the-variants.{RuleList, PartyPair, GivenWord, Scratch, Inconvertible, Output}
 use Rattle.house_file.specs.Check.{checkOf}
-use Rattle.house_file.proofs.FileRefusals.{file-refusals}
+use Rattle.house_file.proofs.FileRefusals.{OfFile, file-refusals}
 use Rattle.house_layout.specs.declared.reply.Refusal.{Refusal}
 use Rattle.graph.specs.declared.Archive.{Archive}
 use Rattle.graph.specs.Archive.{Shows}
@@ -52,7 +53,8 @@ module _ (M : Matter) (a : Archive) (h : Shows M a) where
       (λ k. m (k / 32) (k % 32)
       ∙ ap (λ (n : ℕ). isPair n (k / 32) (k % 32) && permits (problemIn a) (mine (problemIn a)) (pair (k / 32) (k % 32))) (h .parties)
       ∙ ap (λ (S : Problem Pair Word). isPair (M .parties) (k / 32) (k % 32) && permits S (mine S) (pair (k / 32) (k % 32))) e
-      ∙ ap (λ (b : Bool). isPair (M .parties) (k / 32) (k % 32) && b) (permits-one M (pair (k / 32) (k % 32)) (minedList M) (mined-ones M refl)))
+      ∙ ap (λ (b : Bool). isPair (M .parties) (k / 32) (k % 32) && b)
+      (permits-one M (pair (k / 32) (k % 32)) (minedList M) (mined-ones M refl)))
 
   module _ (scratch output : ℕ) where
     pub mining-scratch : scratch < 1024 → miningIn M scratch output ≡ refuses Scratch
@@ -101,8 +103,11 @@ pub never-refused : {G : Type 0} (a : Archive) (x : Refusal) → Refused x ≡ a
 unfolding archiveVerdict
 never-refused a x e = reply-refused (length (archiveBytes a)) x (verdict (problemIn a)) (sym e)
 
--- scratch is kept at a refusal that comes from a file: those are 1 to 8
-kept-at : (x : Refusal) → numberOf x ≤ 8 → (old : List ℕ) → scratchOf (refuses x) old ≡ old
+-- scratch is kept at a refusal that comes from a file: those are 1 to 8 and 15
+no-file : {G : Type 0} (n : ℕ) → 8 < n → n < 15 → (n ≤ 8) ⊎ (n ≡ 15) → G
+no-file n a b h = ⊎-elim (λ e. absurd (omega arith)) (λ e. absurd (omega arith)) h
+
+kept-at : (x : Refusal) → OfFile x → (old : List ℕ) → scratchOf (refuses x) old ≡ old
 kept-at Length h old = refl
 kept-at Field h old = refl
 kept-at Link h old = refl
@@ -111,12 +116,13 @@ kept-at Unreached h old = refl
 kept-at Target h old = refl
 kept-at Kind h old = refl
 kept-at Repeat h old = refl
-kept-at RuleList h old = absurd (omega arith)
-kept-at PartyPair h old = absurd (omega arith)
-kept-at GivenWord h old = absurd (omega arith)
-kept-at Scratch h old = absurd (omega arith)
-kept-at Inconvertible h old = absurd (omega arith)
-kept-at Output h old = absurd (omega arith)
+kept-at RuleList h old = no-file 9 (omega arith) (omega arith) h
+kept-at PartyPair h old = no-file 10 (omega arith) (omega arith) h
+kept-at GivenWord h old = no-file 11 (omega arith) (omega arith) h
+kept-at Scratch h old = no-file 12 (omega arith) (omega arith) h
+kept-at Inconvertible h old = no-file 13 (omega arith) (omega arith) h
+kept-at Output h old = no-file 14 (omega arith) (omega arith) h
+kept-at Owner h old = refl
 
 pub file-keeps : (f : List ℕ) (x : Refusal) → checkOf f ≡ check.Refused x → (old : List ℕ) → scratchOf (refuses x) old ≡ old
 file-keeps f x e old = kept-at x (file-refusals f x e) old

@@ -1,9 +1,10 @@
 -- The walk along all chains passes exactly where each chain is right and no record stands in two: by induction on the parties, both ways.
 -- Assumes nothing.
 use mathlib.Core.Path.{_≡_, refl, sym, ap, _∙_}
-use mathlib.Core.Bool.{true}
+use mathlib.Core.Bool.{true, false}
 use mathlib.Core.Logic.{⊎-elim, by-cases}
-use mathlib.Core.List.{List, [], _++_, append-assoc, List·Memᴰ, List·Memᴰ·not-nil, Memᴰ·append-left, Memᴰ·append-right, List·Memᴰ·append-cases, append-nil}
+use mathlib.Core.List.{List, [], _++_, append-assoc}
+use mathlib.Core.List.{List·Memᴰ, List·Memᴰ·not-nil, Memᴰ·append-left, Memᴰ·append-right, List·Memᴰ·append-cases, append-nil}
 use Prim.Native.Nat.{ℕ, zero, suc, _+_, _≤_, _<_}
 use native.Mathlib.Decide.{ℕ-discrete}
 use native.Mathlib.Omega.{arith}
@@ -12,7 +13,7 @@ use Rattle.lists.specs.Order.{Distinct}
 use Rattle.lists.proofs.Cases.{both}
 use Rattle.lists.proofs.ListLaws.{member-in, member-not}
 use Rattle.house_layout.specs.Layout.{partiesOf, labelsOf, headOf, recordsOf, recordOf}
-use Rattle.house_layout.specs.Fields.{legalTarget, legalKind}
+use Rattle.house_layout.specs.Fields.{foreign, legalTarget, legalKind}
 use Rattle.house_file.specs.Check.{Walk, stopped, passed, andThen, walkChains}
 use Rattle.house_file.specs.Meaning.{chainOf, Linked}
 use Rattle.house_file.specs.Reading.{chainWalk}
@@ -22,29 +23,35 @@ use Rattle.house_file.proofs.WalkLaws.{walk-passed, passed-walk}
 -- a chain that is right by itself
 pub record RightChain (f : List ℕ) (u : ℕ) : Type 0 where
   pub linked : Linked f (headOf f u) (chainOf f u)
+  pub own : (s : ℕ) → List·Memᴰ s (chainOf f u) → foreign u (recordOf f s .owner) ≡ false
   pub target : (s : ℕ) → List·Memᴰ s (chainOf f u) → legalTarget (partiesOf f) u (recordOf f s .target) ≡ true
   pub kind : (s : ℕ) → List·Memᴰ s (chainOf f u) → legalKind (labelsOf f) (recordOf f s .kind) ≡ true
   pub once : Distinct (chainOf f u)
-  pub different : (s t : ℕ) → List·Memᴰ s (chainOf f u) → List·Memᴰ t (chainOf f u) → recordOf f s .target ≡ recordOf f t .target → recordOf f s .kind ≡ recordOf f t .kind → s ≡ t
+  pub different : (s t : ℕ) → List·Memᴰ s (chainOf f u) → List·Memᴰ t (chainOf f u)
+      → recordOf f s .target ≡ recordOf f t .target → recordOf f s .kind ≡ recordOf f t .kind → s ≡ t
 
 -- party u's walk, after the records `before`
-pub chain-passed : (f : List ℕ) (u : ℕ) (before c : List ℕ) → chainWalk f u before ≡ passed c → (c ≡ chainOf f u) × (RightChain f u × ((s : ℕ) → List·Memᴰ s (chainOf f u) → List·Memᴰ s before → ⊥))
+pub chain-passed : (f : List ℕ) (u : ℕ) (before c : List ℕ) → chainWalk f u before ≡ passed c
+    → (c ≡ chainOf f u) × (RightChain f u × ((s : ℕ) → List·Memᴰ s (chainOf f u) → List·Memᴰ s before → ⊥))
 unfolding chainOf
 chain-passed f u before c e =
     let h = walk-passed f u (recordsOf f) before [] (headOf f u) c e in
     let r = h .right in (
       h .shape,
       (
-        record { linked = r .linked; target = r .target; kind = r .kind; once = r .once; different = r .different },
+        record { linked = r .linked; own = r .own; target = r .target; kind = r .kind; once = r .once; different = r .different },
         λ s m n. both (member-in s (before ++ []) (rw (append-nil before) n)) (r .fresh s m),
       ),
     )
 
-pub passed-chain : (f : List ℕ) (u : ℕ) (before : List ℕ) → RightChain f u → ((s : ℕ) → List·Memᴰ s (chainOf f u) → List·Memᴰ s before → ⊥) → chainWalk f u before ≡ passed (chainOf f u)
+pub passed-chain : (f : List ℕ) (u : ℕ) (before : List ℕ) → RightChain f u
+    → ((s : ℕ) → List·Memᴰ s (chainOf f u) → List·Memᴰ s before → ⊥)
+    → chainWalk f u before ≡ passed (chainOf f u)
 unfolding chainOf anyOf
 passed-chain f u before h apart =
     passed-walk f u (recordsOf f) before [] (headOf f u) (record {
       linked = h .linked;
+      own = h .own;
       target = h .target;
       kind = h .kind;
       once = h .once;
@@ -66,13 +73,16 @@ chains-in f u (suc m) v s a b n =
     (λ q. Memᴰ·append-left (chainsFrom f (suc u) m) (rw q at n))
     (λ q. Memᴰ·append-right (chainOf f u) (chains-in f (suc u) m v s (omega (arith, q)) (omega arith) n))
 
-pub chains-out : (f : List ℕ) (u m : ℕ) {s : ℕ} → List·Memᴰ s (chainsFrom f u m) → (v : ℕ) × ((u ≤ v) × ((v < u + m) × List·Memᴰ s (chainOf f v)))
+pub chains-out : (f : List ℕ) (u m : ℕ) {s : ℕ} → List·Memᴰ s (chainsFrom f u m)
+    → (v : ℕ) × ((u ≤ v) × ((v < u + m) × List·Memᴰ s (chainOf f v)))
 unfolding chainsFrom
 chains-out f u zero n = absurd (List·Memᴰ·not-nil n)
 chains-out f u (suc m) {s} n =
     ⊎-elim
     (λ (k : List·Memᴰ s (chainOf f u)). (u, (omega arith, (omega arith, k))))
-    (λ (k : List·Memᴰ s (chainsFrom f (suc u) m)). let r = chains-out f (suc u) m k in (r .0, (omega (arith, r .1 .0), (omega (arith, r .1 .1 .0), r .1 .1 .1))))
+    (λ (k : List·Memᴰ s (chainsFrom f (suc u) m)).
+    let r = chains-out f (suc u) m k in
+    (r .0, (omega (arith, r .1 .0), (omega (arith, r .1 .1 .0), r .1 .1 .1))))
     (List·Memᴰ·append-cases (chainOf f u) n)
 
 -- m parties from u on, after the records `before`
@@ -85,7 +95,8 @@ then-passed : (w : Walk) (g : List ℕ → Walk) {c : List ℕ} → andThen w g 
 then-passed (stopped x) g e = unlike refl e
 then-passed (passed d) g e = (d, (refl, e))
 
-pub walks-passed : (f : List ℕ) (u m : ℕ) (before all : List ℕ) → walkChains f u m before ≡ passed all → (all ≡ before ++ chainsFrom f u m) × RightChains f u m before
+pub walks-passed : (f : List ℕ) (u m : ℕ) (before all : List ℕ) → walkChains f u m before ≡ passed all
+    → (all ≡ before ++ chainsFrom f u m) × RightChains f u m before
 unfolding walkChains chainsFrom
 walks-passed f u zero before all e = (
   cc (append-nil before),
@@ -99,21 +110,28 @@ walks-passed f u (suc m) before all e =
       i .0 ∙ append-assoc before (t .0) (chainsFrom f (suc u) m) ∙ ap (λ (c : List ℕ). before ++ (c ++ chainsFrom f (suc u) m)) (p .0),
       record {
         chain = λ v a b. by-cases (ℕ-discrete v u) (λ q. rw q (p .1 .0)) (λ q. h .chain v (omega (arith, q)) (omega arith));
-        fresh = λ v s a b n k. by-cases (ℕ-discrete v u) (λ q. p .1 .1 s (rw q at n) k) (λ q. h .fresh v s (omega (arith, q)) (omega arith) n (Memᴰ·append-left (t .0) k));
+        fresh = λ v s a b n k. by-cases (ℕ-discrete v u)
+            (λ q. p .1 .1 s (rw q at n) k)
+            (λ q. h .fresh v s (omega (arith, q)) (omega arith) n (Memᴰ·append-left (t .0) k));
         apart = λ v w s a b d n k. by-cases (ℕ-discrete v u)
             (λ q. h .fresh w s (omega arith) (omega arith) k (Memᴰ·append-right before (rw (p .0) (rw q at n))))
             (λ q. h .apart v w s (omega (arith, q)) b (omega arith) n k);
       },
     )
 
-pub passed-walks : (f : List ℕ) (u m : ℕ) (before : List ℕ) → RightChains f u m before → walkChains f u m before ≡ passed (before ++ chainsFrom f u m)
+pub passed-walks : (f : List ℕ) (u m : ℕ) (before : List ℕ) → RightChains f u m before
+    → walkChains f u m before ≡ passed (before ++ chainsFrom f u m)
 unfolding walkChains chainsFrom
 passed-walks f u zero before h = ap passed (sym (append-nil before))
 passed-walks f u (suc m) before h =
     rw (passed-chain f u before (h .chain u (omega arith) (omega arith)) (λ s n. h .fresh u s (omega arith) (omega arith) n))
     (passed-walks f (suc u) m (before ++ chainOf f u) (record {
       chain = λ v a b. h .chain v (omega arith) (omega arith);
-      fresh = λ v s a b n k. ⊎-elim (λ (j : List·Memᴰ s before). h .fresh v s (omega arith) (omega arith) n j) (λ (j : List·Memᴰ s (chainOf f u)). h .apart u v s (omega arith) (omega arith) (omega arith) j n) (List·Memᴰ·append-cases before k);
+      fresh = λ v s a b n k.
+          ⊎-elim
+          (λ (j : List·Memᴰ s before). h .fresh v s (omega arith) (omega arith) n j)
+          (λ (j : List·Memᴰ s (chainOf f u)). h .apart u v s (omega arith) (omega arith) (omega arith) j n)
+          (List·Memᴰ·append-cases before k);
       apart = λ v w s a b d n k. h .apart v w s (omega arith) b (omega arith) n k;
     })
     ∙ ap passed (append-assoc before (chainOf f u) (chainsFrom f (suc u) m)))

@@ -1,5 +1,7 @@
--- Only the refusals 1 to 8 come from a file: each test of the check gives one of them, and a walk along chains passes on what it met.
-use mathlib.Core.Path.{_≡_}
+-- Only the refusals 1 to 8 and 15 come from a file: each test of the check gives one of them, and a walk along chains
+-- passes on what it met.
+use mathlib.Core.Path.{_≡_, refl}
+use mathlib.Core.Logic.{_⊎_, inl, inr}
 use mathlib.Core.Bool.{Bool, true, false, not}
 use mathlib.Core.List.{List, [], _∷_, _++_}
 use Prim.Native.Nat.{ℕ, zero, suc, _≤_}
@@ -9,24 +11,28 @@ use lib.ListN.{length}
 use Rattle.lists.specs.Lists.{pick, allOf, member, upFrom}
 use Rattle.house_layout.specs.Layout.{partiesOf, recordsOf, sizeOf, headOf, recordOf}
 use Rattle.house_layout.specs.Reply.{numberOf, refuse}
-use Rattle.house_layout.specs.Fields.{fieldsInRange, legalTarget, legalKind, judgeRecord}
+use Rattle.house_layout.specs.Fields.{fieldsInRange, foreign, legalTarget, legalKind, judgeRecord}
 use Rattle.house_layout.specs.declared.record.Record.{Record}
 use Rattle.house_layout.specs.declared.reply.Refusal.{Refusal}
-use Rattle.house_layout.specs.declared.reply.Refusal.the-variants.{Length, Field, Again, Unreached, Target, Kind, Repeat}
+use Rattle.house_layout.specs.declared.reply.Refusal.the-variants.{Length, Field, Again, Unreached, Owner, Target, Kind, Repeat}
 use Rattle.house_layout.specs.declared.reply.Check.{Check}
 use Rattle.house_layout.specs.declared.reply.Check.the-variants.{Accepted, Refused}
-use Rattle.house_file.specs.Check.{recordCheck, Walk, stopped, passed, onward, walkChain, andThen, walkChains, reachedAll, chainsCheck, checkOf}
+use Rattle.house_file.specs.Check.{recordCheck, Walk, stopped, passed, onward, walkChain}
+use Rattle.house_file.specs.Check.{andThen, walkChains, reachedAll, chainsCheck, checkOf}
 
--- a reply, or a walk, that refuses by 1 to 8 at the most
+-- a refusal of a file; a reply, or a walk, that refuses by one of them at the most
+abbrev pub OfFile : Refusal → Type 0
+OfFile x = (numberOf x ≤ 8) ⊎ (numberOf x ≡ 15)
+
 abbrev FromFile : Check → Type 0
 FromFile Accepted = Unit {0}
-FromFile (Refused x) = numberOf x ≤ 8
+FromFile (Refused x) = OfFile x
 
 abbrev WalkFromFile : Walk → Type 0
-WalkFromFile (stopped x) = numberOf x ≤ 8
+WalkFromFile (stopped x) = OfFile x
 WalkFromFile (passed c) = Unit {0}
 
-refuse-from : (b : Bool) (x : Refusal) (c : Check) → numberOf x ≤ 8 → FromFile c → FromFile (refuse b x c)
+refuse-from : (b : Bool) (x : Refusal) (c : Check) → OfFile x → FromFile c → FromFile (refuse b x c)
 refuse-from true x c h k = h
 refuse-from false x c h k = k
 
@@ -37,10 +43,11 @@ pick-from false v w h k = k
 judge-from : (n l u : ℕ) (r : Record) (again repeat : Bool) → FromFile (judgeRecord n l u r again repeat)
 unfolding judgeRecord
 judge-from n l u r again repeat =
-    refuse-from again Again _ (omega arith)
-    (refuse-from (not (legalTarget n u (r .target))) Target _ (omega arith)
-    (refuse-from (not (legalKind l (r .kind))) Kind _ (omega arith)
-    (refuse-from repeat Repeat _ (omega arith) tt)))
+    refuse-from again Again _ (inl (omega arith))
+    (refuse-from (foreign u (r .owner)) Owner _ (inr refl)
+    (refuse-from (not (legalTarget n u (r .target))) Target _ (inl (omega arith))
+    (refuse-from (not (legalKind l (r .kind))) Kind _ (inl (omega arith))
+    (refuse-from repeat Repeat _ (inl (omega arith)) tt))))
 
 onward-from : (c : Check) (w : Walk) → FromFile c → WalkFromFile w → WalkFromFile (onward c w)
 onward-from Accepted w h k = k
@@ -48,11 +55,12 @@ onward-from (Refused x) w h k = h
 
 chain-from : (f : List ℕ) (u k : ℕ) (before earlier : List ℕ) (r : ℕ) → WalkFromFile (walkChain f u k before earlier r)
 unfolding walkChain recordCheck
-chain-from f u zero before earlier r = omega arith
+chain-from f u zero before earlier r = inl (omega arith)
 chain-from f u (suc k) before earlier r =
     pick-from (eqb r 0) _ _ tt
-    (pick-from (ltb (recordsOf f) r) _ _ (omega arith)
-    (onward-from (recordCheck f u before earlier r) _ (judge-from _ _ _ _ _ _) (chain-from f u k before (earlier ++ (r ∷ [])) (recordOf f r .next))))
+    (pick-from (ltb (recordsOf f) r) _ _ (inl (omega arith))
+    (onward-from (recordCheck f u before earlier r) _ (judge-from _ _ _ _ _ _)
+    (chain-from f u k before (earlier ++ (r ∷ [])) (recordOf f r .next))))
 
 then-from : (w : Walk) (g : List ℕ → Walk) → WalkFromFile w → ((c : List ℕ) → WalkFromFile (g c)) → WalkFromFile (andThen w g)
 then-from (stopped x) g h k = h
@@ -62,19 +70,21 @@ chains-from : (f : List ℕ) (u m : ℕ) (before : List ℕ) → WalkFromFile (w
 unfolding walkChains
 chains-from f u zero before = tt
 chains-from f u (suc m) before =
-    then-from (walkChain f u (suc (recordsOf f)) before [] (headOf f u)) _ (chain-from f u (suc (recordsOf f)) before [] (headOf f u)) (λ c. chains-from f (suc u) m (before ++ c))
+    then-from (walkChain f u (suc (recordsOf f)) before [] (headOf f u)) _
+    (chain-from f u (suc (recordsOf f)) before [] (headOf f u))
+    (λ c. chains-from f (suc u) m (before ++ c))
 
 reached-from : (r : ℕ) (w : Walk) → WalkFromFile w → FromFile (reachedAll r w)
 reached-from r (stopped x) h = h
-reached-from r (passed all) h = refuse-from (not (allOf (λ s. member s all) (upFrom 1 r))) Unreached _ (omega arith) tt
+reached-from r (passed all) h = refuse-from (not (allOf (λ s. member s all) (upFrom 1 r))) Unreached _ (inl (omega arith)) tt
 
 check-from : (f : List ℕ) → FromFile (checkOf f)
 unfolding checkOf chainsCheck
 check-from f =
-    refuse-from (ltb (length f) 8) Length _ (omega arith)
-    (refuse-from (not (fieldsInRange f)) Field _ (omega arith)
-    (refuse-from (not (eqb (length f) (sizeOf f))) Length _ (omega arith)
+    refuse-from (ltb (length f) 8) Length _ (inl (omega arith))
+    (refuse-from (not (fieldsInRange f)) Field _ (inl (omega arith))
+    (refuse-from (not (eqb (length f) (sizeOf f))) Length _ (inl (omega arith))
     (reached-from (recordsOf f) (walkChains f 0 (partiesOf f) []) (chains-from f 0 (partiesOf f) []))))
 
-pub file-refusals : (f : List ℕ) (x : Refusal) → checkOf f ≡ Refused x → numberOf x ≤ 8
+pub file-refusals : (f : List ℕ) (x : Refusal) → checkOf f ≡ Refused x → OfFile x
 file-refusals f x e = rw e at (check-from f)

@@ -6,3 +6,4 @@ pub mod WellFormedLaws
 pub mod ReachedLaws
 pub mod DecodeLaws
 pub mod FileRefusals
+pub mod OwnerLaws

@@ -10,7 +10,7 @@ use Rattle.lists.specs.Lists.{anyOf, member}
 use Rattle.lists.specs.Order.{Distinct}
 use Rattle.lists.proofs.Cases.{by-test, by-mem, both, clash}
 use Rattle.house_layout.specs.Layout.{partiesOf, labelsOf, recordsOf, recordOf}
-use Rattle.house_layout.specs.Fields.{legalTarget, legalKind}
+use Rattle.house_layout.specs.Fields.{foreign, legalTarget, legalKind}
 use Rattle.house_file.specs.Check.{recordCheck, says, Walk, passed, onward, walkChain}
 use Rattle.house_file.specs.Meaning.{chainFrom, Linked}
 use Rattle.house_layout.specs.declared.reply.Check.{Check}
@@ -57,7 +57,8 @@ unfolding chainFrom
 chain-step f k r z l = rw (ne-eqb r 0 z, le-ltb (recordsOf f) r l)
 
 walk-step : (f : List ℕ) (u k : ℕ) (before earlier : List ℕ) (r : ℕ) → (r ≡ 0 → ⊥) → r ≤ recordsOf f
-    → walkChain f u (suc k) before earlier r ≡ onward (recordCheck f u before earlier r) (walkChain f u k before (earlier ++ (r ∷ [])) (recordOf f r .next))
+    → walkChain f u (suc k) before earlier r
+    ≡ onward (recordCheck f u before earlier r) (walkChain f u k before (earlier ++ (r ∷ [])) (recordOf f r .next))
 unfolding walkChain
 walk-step f u k before earlier r z l = rw (ne-eqb r 0 z, le-ltb (recordsOf f) r l)
 
@@ -68,12 +69,14 @@ walk-end f u k before earlier r e = rw (eq-eqb r 0 e)
 -- what a walk finds right of the records c from r on, after `before` and `earlier`
 pub record Right (f : List ℕ) (u : ℕ) (before earlier : List ℕ) (r : ℕ) (c : List ℕ) : Type 0 where
   pub linked : Linked f r c
+  pub own : (s : ℕ) → List·Memᴰ s c → foreign u (recordOf f s .owner) ≡ false
   pub target : (s : ℕ) → List·Memᴰ s c → legalTarget (partiesOf f) u (recordOf f s .target) ≡ true
   pub kind : (s : ℕ) → List·Memᴰ s c → legalKind (labelsOf f) (recordOf f s .kind) ≡ true
   pub fresh : (s : ℕ) → List·Memᴰ s c → member s (before ++ earlier) ≡ false
   pub once : Distinct c
   pub new : (s : ℕ) → List·Memᴰ s c → anyOf (says f (recordOf f s .target) (recordOf f s .kind)) earlier ≡ false
-  pub different : (s t : ℕ) → List·Memᴰ s c → List·Memᴰ t c → recordOf f s .target ≡ recordOf f t .target → recordOf f s .kind ≡ recordOf f t .kind → s ≡ t
+  pub different : (s t : ℕ) → List·Memᴰ s c → List·Memᴰ t c
+      → recordOf f s .target ≡ recordOf f t .target → recordOf f s .kind ≡ recordOf f t .kind → s ≡ t
 
 nothing : {G : Type 0} {s : ℕ} → List·Memᴰ s [] → G
 nothing m = absurd (List·Memᴰ·not-nil m)
@@ -81,6 +84,7 @@ nothing m = absurd (List·Memᴰ·not-nil m)
 right-end : (f : List ℕ) (u : ℕ) (before earlier : List ℕ) (r : ℕ) → r ≡ 0 → Right f u before earlier r []
 right-end f u before earlier r e = record {
   linked = e;
+  own = λ s m. nothing m;
   target = λ s m. nothing m;
   kind = λ s m. nothing m;
   fresh = λ s m. nothing m;
@@ -94,20 +98,29 @@ module _ (f : List ℕ) (u : ℕ) (before earlier : List ℕ) (r : ℕ) (c : Lis
   moved s = ap (member s) (sym (append-assoc before earlier (r ∷ [])))
 
   -- one record more in front
-  right-cons : recordCheck f u before earlier r ≡ Accepted → Right f u before (earlier ++ (r ∷ [])) (recordOf f r .next) c → Right f u before earlier r (r ∷ c)
+  right-cons : recordCheck f u before earlier r ≡ Accepted
+      → Right f u before (earlier ++ (r ∷ [])) (recordOf f r .next) c
+      → Right f u before earlier r (r ∷ c)
   unfolding recordCheck
   right-cons e h =
       let p = judge-passed (partiesOf f) (labelsOf f) u (recordOf f r) _ _ e in
       record {
         linked = (refl, (omega (arith, z), (l, h .linked)));
+        own = λ s m. by-mem m (λ q. rw q (p .own)) (h .own s);
         target = λ s m. by-mem m (λ q. rw q (p .target)) (h .target s);
         kind = λ s m. by-mem m (λ q. rw q (p .kind)) (h .kind s);
         fresh = λ s m. by-mem m (λ q. rw q (p .fresh)) (λ n. any-left (eqb s) (before ++ earlier) r (sym (moved s) ∙ h .fresh s n));
         once = (λ m. both (any-yes (eqb r) (before ++ earlier) r (eq-eqb r r refl)) (sym (moved r) ∙ h .fresh r m), h .once);
-        new = λ s m. by-mem m (λ q. rw q (p .new)) (λ n. any-left (says f (recordOf f s .target) (recordOf f s .kind)) earlier r (h .new s n));
+        new = λ s m. by-mem m
+            (λ q. rw q (p .new))
+            (λ n. any-left (says f (recordOf f s .target) (recordOf f s .kind)) earlier r (h .new s n));
         different = λ s t m n a b. by-mem m
-            (λ q. by-mem n (λ o. q ∙ sym o) (λ n′. both (says-same f r t (rw q at a) (rw q at b)) (any-last (says f (recordOf f t .target) (recordOf f t .kind)) earlier r (h .new t n′))))
-            (λ m′. by-mem n (λ o. both (says-same f r s (sym (rw o at a)) (sym (rw o at b))) (any-last (says f (recordOf f s .target) (recordOf f s .kind)) earlier r (h .new s m′)))
+            (λ q. by-mem n (λ o. q ∙ sym o)
+            (λ n′. both (says-same f r t (rw q at a) (rw q at b))
+            (any-last (says f (recordOf f t .target) (recordOf f t .kind)) earlier r (h .new t n′))))
+            (λ m′. by-mem n
+            (λ o. both (says-same f r s (sym (rw o at a)) (sym (rw o at b)))
+            (any-last (says f (recordOf f s .target) (recordOf f s .kind)) earlier r (h .new s m′)))
             (λ n′. h .different s t m′ n′ a b));
       }
 
@@ -118,6 +131,7 @@ module _ (f : List ℕ) (u : ℕ) (before earlier : List ℕ) (r : ℕ) (c : Lis
       let other : (s : ℕ) → List·Memᴰ s c → s ≡ r → ⊥ = λ s m q. h .once .0 (rw q at m) in
       record {
         linked = h .linked .1 .1 .1;
+        own = λ s m. h .own s (List·Memᴰ·tail m);
         target = λ s m. h .target s (List·Memᴰ·tail m);
         kind = λ s m. h .kind s (List·Memᴰ·tail m);
         fresh = λ s m. moved s ∙ any-no (eqb s) (before ++ earlier) r (ne-eqb s r (other s m)) ∙ h .fresh s (List·Memᴰ·tail m);
@@ -132,7 +146,8 @@ module _ (f : List ℕ) (u : ℕ) (before earlier : List ℕ) (r : ℕ) (c : Lis
   unfolding recordCheck
   right-accepts h =
       let here : List·Memᴰ r (r ∷ c) = List·Memᴰ·head refl in
-      judge-accepts (partiesOf f) (labelsOf f) u (recordOf f r) _ _ (h .fresh r here) (h .target r here) (h .kind r here) (h .new r here)
+      judge-accepts (partiesOf f) (labelsOf f) u (recordOf f r) _ _
+      (h .fresh r here) (h .own r here) (h .target r here) (h .kind r here) (h .new r here)
 
 -- the walk's own turns
 onward-passed : (x : Check) (w : Walk) {c : List ℕ} → onward x w ≡ passed c → (x ≡ Accepted) × (w ≡ passed c)
@@ -143,31 +158,45 @@ pub record Passes (f : List ℕ) (u k : ℕ) (before earlier : List ℕ) (r : �
   pub shape : c ≡ earlier ++ chainFrom f k r
   pub right : Right f u before earlier r (chainFrom f k r)
 
-inside : (f : List ℕ) (u k : ℕ) (before earlier : List ℕ) (r : ℕ) {c : List ℕ} → walkChain f u (suc k) before earlier r ≡ passed c → (r ≡ 0 → ⊥) → r ≤ recordsOf f
+inside : (f : List ℕ) (u k : ℕ) (before earlier : List ℕ) (r : ℕ) {c : List ℕ}
+    → walkChain f u (suc k) before earlier r ≡ passed c
+    → (r ≡ 0 → ⊥) → r ≤ recordsOf f
 unfolding walkChain
 inside f u k before earlier r e z =
     by-test (ltb (recordsOf f) r) (λ q. unlike refl (rw (ne-eqb r 0 z, q, walkChain) at e)) (λ q. ltb-false (recordsOf f) r q)
 
-no-turns : (f : List ℕ) (u : ℕ) (before earlier : List ℕ) (r : ℕ) {c : List ℕ} {G : Type 0} → walkChain f u zero before earlier r ≡ passed c → G
+no-turns : (f : List ℕ) (u : ℕ) (before earlier : List ℕ) (r : ℕ) {c : List ℕ} {G : Type 0}
+    → walkChain f u zero before earlier r ≡ passed c → G
 unfolding walkChain
 no-turns f u before earlier r e = unlike refl e
 
 -- a walk that passed ended here, or went on over this record
 walk-cases : (f : List ℕ) (u k : ℕ) (before earlier : List ℕ) (r : ℕ) (c : List ℕ) → walkChain f u (suc k) before earlier r ≡ passed c
-    → ((z : r ≡ 0 → ⊥) (l : r ≤ recordsOf f) → recordCheck f u before earlier r ≡ Accepted → walkChain f u k before (earlier ++ (r ∷ [])) (recordOf f r .next) ≡ passed c → Passes f u k before earlier r c)
+    → ((z : r ≡ 0 → ⊥) (l : r ≤ recordsOf f) → recordCheck f u before earlier r ≡ Accepted
+    → walkChain f u k before (earlier ++ (r ∷ [])) (recordOf f r .next) ≡ passed c → Passes f u k before earlier r c)
     → Passes f u k before earlier r c
 walk-cases f u k before earlier r c e step =
     by-test (eqb r 0)
     (λ q. let z : r ≡ 0 = eqb-true r 0 q in
     let s : earlier ≡ c = cc (sym (walk-end f u k before earlier r z) ∙ e) in
-    record { shape = rw (chain-end f k r z) (sym s ∙ sym (append-nil earlier)); right = rw (chain-end f k r z) (right-end f u before earlier r z) })
+    record {
+      shape = rw (chain-end f k r z) (sym s ∙ sym (append-nil earlier));
+      right = rw (chain-end f k r z) (right-end f u before earlier r z);
+    })
     (λ q. let z : r ≡ 0 → ⊥ = eqb-false r 0 q in
     let l : r ≤ recordsOf f = inside f u k before earlier r e z in
-    let o = onward-passed (recordCheck f u before earlier r) (walkChain f u k before (earlier ++ (r ∷ [])) (recordOf f r .next)) (sym (walk-step f u k before earlier r z l) ∙ e) in
+    let o =
+    onward-passed (recordCheck f u before earlier r)
+    (walkChain f u k before (earlier ++ (r ∷ [])) (recordOf f r .next))
+    (sym (walk-step f u k before earlier r z l) ∙ e) in
     step z l (o .0) (o .1))
 
-pub walk-passed : (f : List ℕ) (u k : ℕ) (before earlier : List ℕ) (r : ℕ) (c : List ℕ) → walkChain f u (suc k) before earlier r ≡ passed c → Passes f u k before earlier r c
-walk-passed f u zero before earlier r c e = walk-cases f u zero before earlier r c e (λ z l a w. no-turns f u before (earlier ++ (r ∷ [])) (recordOf f r .next) w)
+pub walk-passed : (f : List ℕ) (u k : ℕ) (before earlier : List ℕ) (r : ℕ) (c : List ℕ)
+    → walkChain f u (suc k) before earlier r ≡ passed c
+    → Passes f u k before earlier r c
+walk-passed f u zero before earlier r c e =
+    walk-cases f u zero before earlier r c e
+    (λ z l a w. no-turns f u before (earlier ++ (r ∷ [])) (recordOf f r .next) w)
 walk-passed f u (suc k) before earlier r c e =
     walk-cases f u (suc k) before earlier r c e (λ z l a w.
     let h = walk-passed f u k before (earlier ++ (r ∷ [])) (recordOf f r .next) c w in
@@ -181,7 +210,8 @@ chain-stop : (f : List ℕ) (k r : ℕ) → recordsOf f < r → chainFrom f (suc
 unfolding chainFrom
 chain-stop f k r l = by-test (eqb r 0) (λ q. rw q) (λ q. rw (q, lt-ltb (recordsOf f) r l))
 
-passed-end : (f : List ℕ) (u k : ℕ) (before earlier : List ℕ) (r : ℕ) → r ≡ 0 → walkChain f u (suc k) before earlier r ≡ passed (earlier ++ chainFrom f k r)
+passed-end : (f : List ℕ) (u k : ℕ) (before earlier : List ℕ) (r : ℕ) → r ≡ 0
+    → walkChain f u (suc k) before earlier r ≡ passed (earlier ++ chainFrom f k r)
 passed-end f u k before earlier r z = rw (chain-end f k r z) (walk-end f u k before earlier r z ∙ ap passed (sym (append-nil earlier)))
 
 pub passed-walk : (f : List ℕ) (u k : ℕ) (before earlier : List ℕ) (r : ℕ) → Right f u before earlier r (chainFrom f k r)
@@ -192,7 +222,9 @@ passed-walk f u (suc k) before earlier r h =
     by-test (eqb r 0)
     (λ q. passed-end f u (suc k) before earlier r (eqb-true r 0 q))
     (λ q. by-test (ltb (recordsOf f) r)
-    (λ g. let t : Right f u before earlier r [] = rw (chain-stop f k r (ltb-true (recordsOf f) r g)) at h in passed-end f u (suc k) before earlier r (t .linked))
+    (λ g.
+    let t : Right f u before earlier r [] = rw (chain-stop f k r (ltb-true (recordsOf f) r g)) at h in
+    passed-end f u (suc k) before earlier r (t .linked))
     (λ g. let z : r ≡ 0 → ⊥ = eqb-false r 0 q in
     let l : r ≤ recordsOf f = ltb-false (recordsOf f) r g in
     let t : Right f u before earlier r (r ∷ chainFrom f k (recordOf f r .next)) = rw (chain-step f k r z l) at h in

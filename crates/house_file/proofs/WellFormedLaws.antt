@@ -12,7 +12,7 @@ use Rattle.lists.specs.Lists.{allOf, member, upFrom}
 use Rattle.lists.proofs.Cases.{and-left, and-right, and-both}
 use Rattle.lists.proofs.ListLaws.{all-in, all-of, up-in, up-out, member-in, member-out}
 use Rattle.fields.specs.Numbers.{byteAt}
-use Rattle.house_layout.specs.Layout.{partiesOf, labelsOf, languageOf, longestOf, recordsOf, sizeOf, recordOf}
+use Rattle.house_layout.specs.Layout.{editionOf, partiesOf, labelsOf, languageOf, longestOf, recordsOf, sizeOf, recordOf}
 use Rattle.house_layout.specs.Reply.{refuse}
 use Rattle.house_layout.specs.Fields.{within, fieldsInRange}
 use Rattle.house_file.specs.Check.{Walk, stopped, passed, walkChains, reachedAll, chainsCheck, checkOf}
@@ -21,7 +21,7 @@ use Rattle.house_layout.specs.declared.reply.Check.{Check}
 use Rattle.house_layout.specs.declared.reply.Check.the-variants.{Accepted, Refused}
 use Rattle.house_layout.specs.declared.reply.Refusal.{Refusal}
 use Rattle.house_layout.specs.declared.reply.Refusal.the-variants.{Length, Field, Unreached}
-use Rattle.house_layout.proofs.RecordLaws.{target-below, target-other, target-legal, kind-cases, kind-legal}
+use Rattle.house_layout.proofs.RecordLaws.{owner-is-own, not-foreign, target-below, target-other, target-legal, kind-cases, kind-legal}
 use Rattle.house_file.proofs.ChainsLaws.{chainsFrom, chains-in, chains-out, walks-passed, passed-walks}
 
 -- a test that was passed over
@@ -41,14 +41,14 @@ range-in low high x a b = and-both (le-leb low x a) (le-leb x high b)
 pub fields-right : (f : List ℕ) → fieldsInRange f ≡ true → FieldsRight f
 unfolding fieldsInRange
 fields-right f e0 =
-    let e1 = and-right (eqb (byteAt f 0) 1) _ e0 in
+    let e1 = and-right (within 1 2 (editionOf f)) _ e0 in
     let e2 = and-right (within 1 32 (partiesOf f)) _ e1 in
     let e3 = and-right (within 1 8 (labelsOf f)) _ e2 in
     let e4 = and-right (within 0 3 (languageOf f)) _ e3 in
     let e5 = and-right (within 1 31 (longestOf f)) _ e4 in
     let e6 = and-right (eqb (byteAt f 5) 0) _ e5 in
     record {
-      edition = eqb-true (byteAt f 0) 1 (and-left _ _ e0);
+      edition = range-out 1 2 (editionOf f) (and-left _ _ e0);
       parties = range-out 1 32 (partiesOf f) (and-left _ _ e1);
       labels = range-out 1 8 (labelsOf f) (and-left _ _ e2);
       language = range-out 0 3 (languageOf f) (and-left _ _ e3) .1;
@@ -60,7 +60,7 @@ fields-right f e0 =
 right-fields : (f : List ℕ) → FieldsRight f → fieldsInRange f ≡ true
 unfolding fieldsInRange
 right-fields f h =
-    and-both (eq-eqb (byteAt f 0) 1 (h .edition))
+    and-both (range-in 1 2 (editionOf f) (h .edition .0) (h .edition .1))
     (and-both (range-in 1 32 (partiesOf f) (h .parties .0) (h .parties .1))
     (and-both (range-in 1 8 (labelsOf f) (h .labels .0) (h .labels .1))
     (and-both (range-in 0 3 (languageOf f) (omega arith) (h .language))
@@ -69,7 +69,8 @@ right-fields f h =
     (le-leb (recordsOf f) 8928 (h .records)))))))
 
 -- all records were reached
-reached-out : (r : ℕ) (w : Walk) → reachedAll r w ≡ Accepted → (all : List ℕ) × ((w ≡ passed all) × ((s : ℕ) → 1 ≤ s → s ≤ r → List·Memᴰ s all))
+reached-out : (r : ℕ) (w : Walk) → reachedAll r w ≡ Accepted
+    → (all : List ℕ) × ((w ≡ passed all) × ((s : ℕ) → 1 ≤ s → s ≤ r → List·Memᴰ s all))
 reached-out r (stopped x) e = let z : _≡_ {A = ℕ} 0 1 = cc in absurd (omega arith)
 reached-out r (passed all) e =
     let t = not-false _ (refuse-passed (not (allOf (λ s. member s all) (upFrom 1 r))) Unreached Accepted e .0) in
@@ -77,7 +78,10 @@ reached-out r (passed all) e =
 
 reached-in : (r : ℕ) (all : List ℕ) → ((s : ℕ) → 1 ≤ s → s ≤ r → List·Memᴰ s all) → reachedAll r (passed all) ≡ Accepted
 reached-in r all h =
-    passed-refuse Unreached (ap not (all-of (λ s. member s all) (upFrom 1 r) (λ s m. let b = up-out 1 r m in member-in s all (h s (b .0) (omega (arith, b .1)))))) refl
+    passed-refuse Unreached
+    (ap not (all-of (λ s. member s all) (upFrom 1 r)
+    (λ s m. let b = up-out 1 r m in member-in s all (h s (b .0) (omega (arith, b .1))))))
+    refl
 
 -- the check, by the outcome of its first tests
 module _ (f : List ℕ) where
@@ -129,10 +133,16 @@ well-formed f e =
       fields = g .fields;
       size = g .size;
       linked = λ u l. h .chain u (omega arith) (omega arith) .linked;
-      reached = λ r a b. let m : List·Memᴰ r (chainsFrom f 0 (partiesOf f)) = rw (p .0) at (w .1 .1 r a b) in let o = chains-out f 0 (partiesOf f) m in (o .0, (omega (arith, o .1 .1 .0), o .1 .1 .1));
+      reached = λ r a b.
+          let m : List·Memᴰ r (chainsFrom f 0 (partiesOf f)) = rw (p .0) at (w .1 .1 r a b) in
+          let o = chains-out f 0 (partiesOf f) m in
+          (o .0, (omega (arith, o .1 .1 .0), o .1 .1 .1));
       once = λ u l. h .chain u (omega arith) (omega arith) .once;
       apart = λ u v r l k m n. h .apart u v r (omega arith) l (omega arith) m n;
-      target = λ u r l m. let t = h .chain u (omega arith) (omega arith) .target r m in (target-below _ u _ t, target-other (partiesOf f) u _ t);
+      owner = λ u r l m. owner-is-own u (recordOf f r .owner) (h .chain u (omega arith) (omega arith) .own r m);
+      target = λ u r l m.
+          let t = h .chain u (omega arith) (omega arith) .target r m in
+          (target-below _ u _ t, target-other (partiesOf f) u _ t);
       kind = λ u r l m. kind-cases (labelsOf f) (recordOf f r .kind) (h .chain u (omega arith) (omega arith) .kind r m);
       different = λ u r s l. h .chain u (omega arith) (omega arith) .different r s;
     }
@@ -146,6 +156,7 @@ accepted f h =
     (ap (reachedAll (recordsOf f)) (passed-walks f 0 (partiesOf f) [] (record {
       chain = λ v a b. record {
         linked = h .linked v (omega arith);
+        own = λ s m. not-foreign v (recordOf f s .owner) (h .owner v s (omega arith) m);
         target = λ s m. let t = h .target v s (omega arith) m in target-legal (partiesOf f) v (recordOf f s .target) (t .0) (t .1);
         kind = λ s m. kind-legal (labelsOf f) (recordOf f s .kind) (h .kind v s (omega arith) m);
         once = h .once v (omega arith);
@@ -154,7 +165,10 @@ accepted f h =
       fresh = λ v s a b m n. List·Memᴰ·not-nil n;
       apart = λ v w s a b d m n. h .apart v w s b (omega arith) m n;
     }))
-    ∙ reached-in (recordsOf f) (chainsFrom f 0 (partiesOf f)) (λ s a b. let r = h .reached s a b in chains-in f 0 (partiesOf f) (r .0) s (omega arith) (omega (arith, r .1 .0)) (r .1 .1)))))
+    ∙ reached-in (recordsOf f) (chainsFrom f 0 (partiesOf f))
+    (λ s a b.
+    let r = h .reached s a b in
+    chains-in f 0 (partiesOf f) (r .0) s (omega arith) (omega (arith, r .1 .0)) (r .1 .1)))))
 
 -- a file is accepted exactly where it is well formed
 pub accepted-iff-well-formed : (f : List ℕ) → (checkOf f ≡ Accepted) ↔ WellFormed f

@@ -1,4 +1,4 @@
--- The check of a house file: 01's order of checks and its refusals 1 to 8.
+-- The check of a house file: 01's order of checks and its refusals 1 to 8; 02's refusal 15 stands between 4 and 6.
 use Prim.Native.Nat.{ℕ, zero, suc}
 use mathlib.Core.Bool.{Bool, not, _&&_}
 use mathlib.Core.List.{List, [], _∷_, _++_}
@@ -17,7 +17,8 @@ use Rattle.house_layout.specs.declared.reply.Check.the-variants.{Accepted, Refu
 unfoldable pub says : List ℕ → ℕ → ℕ → ℕ → Bool
 says f t k s = eqb (recordOf f s .target) t && eqb (recordOf f s .kind) k
 
--- the checks 4, 6, 7, 8 of record r of party u's chain. `before`: the records of the chains of lower parties; `earlier`: those of this chain
+-- the checks 4, 15, 6, 7, 8 of record r of party u's chain. `before`: the records of the chains of lower parties;
+-- `earlier`: those of this chain
 unfoldable pub recordCheck : List ℕ → ℕ → List ℕ → List ℕ → ℕ → Check
 recordCheck f u before earlier r =
     judgeRecord (partiesOf f) (labelsOf f) u (recordOf f r)
@@ -53,7 +54,9 @@ andThen (passed c) g = g c
 -- along the chains of m parties from u on
 unfoldable pub walkChains : List ℕ → ℕ → ℕ → List ℕ → Walk
 walkChains f u zero before = passed before
-walkChains f u (suc m) before = andThen (walkChain f u (suc (recordsOf f)) before [] (headOf f u)) (λ c. walkChains f (suc u) m (before ++ c))
+walkChains f u (suc m) before =
+    andThen (walkChain f u (suc (recordsOf f)) before [] (headOf f u))
+    (λ c. walkChains f (suc u) m (before ++ c))
 
 -- a record never reached comes last
 abbrev pub reachedAll : ℕ → Walk → Check

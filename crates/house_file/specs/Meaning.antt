@@ -9,7 +9,9 @@ use lib.Dec.{eqb, ltb}
 use Rattle.lists.specs.Lists.{anyOf, pick}
 use Rattle.lists.specs.Order.{Distinct}
 use Rattle.fields.specs.Numbers.{byteAt}
-use Rattle.house_layout.specs.Layout.{partiesOf, labelsOf, languageOf, longestOf, recordsOf, sizeOf, headOf, recordOf, permitKind}
+use Rattle.house_layout.specs.Layout.{editionOf, partiesOf, labelsOf, languageOf, longestOf, recordsOf}
+use Rattle.house_layout.specs.Layout.{sizeOf, headOf, recordOf, permitKind}
+use Rattle.house_layout.specs.declared.record.OwnerByte.the-variants.{Party}
 use Rattle.house_file.specs.Check.{says}
 
 -- the records from r on, as far as each number names one
@@ -38,8 +40,12 @@ abbrev pub Linked : List ℕ → ℕ → List ℕ → Type 0
 Linked f r [] = r ≡ 0
 Linked f r (s ∷ c) = (r ≡ s) × ((1 ≤ r) × ((r ≤ recordsOf f) × Linked f (recordOf f r .next) c))
 
+-- edition 1 (01) and edition 2 (02, Ticket 2)
+abbrev pub IsEdition : ℕ → Type 0
+IsEdition e = (1 ≤ e) × (e ≤ 2)
+
 pub record FieldsRight (f : List ℕ) : Type 0 where
-  pub edition : byteAt f 0 ≡ 1
+  pub edition : IsEdition (editionOf f)
   pub parties : (1 ≤ partiesOf f) × (partiesOf f ≤ 32)
   pub labels : (1 ≤ labelsOf f) × (labelsOf f ≤ 8)
   pub language : languageOf f ≤ 3
@@ -57,8 +63,11 @@ pub record WellFormed (f : List ℕ) : Type 0 where
   pub reached : (r : ℕ) → 1 ≤ r → r ≤ recordsOf f → (u : ℕ) × ((u < partiesOf f) × List·Memᴰ r (chainOf f u))
   pub once : (u : ℕ) → u < partiesOf f → Distinct (chainOf f u)
   pub apart : (u v r : ℕ) → u < v → v < partiesOf f → List·Memᴰ r (chainOf f u) → List·Memᴰ r (chainOf f v) → ⊥
+  -- an owner byte, where the edition has one, names the chain's party (02, Ticket 2)
+  pub owner : (u r : ℕ) → u < partiesOf f → List·Memᴰ r (chainOf f u) → (p : ℕ) → recordOf f r .owner ≡ Party p → p ≡ u
   -- targets and kinds
-  pub target : (u r : ℕ) → u < partiesOf f → List·Memᴰ r (chainOf f u) → (recordOf f r .target < partiesOf f) × (recordOf f r .target ≡ u → ⊥)
+  pub target : (u r : ℕ) → u < partiesOf f → List·Memᴰ r (chainOf f u)
+      → (recordOf f r .target < partiesOf f) × (recordOf f r .target ≡ u → ⊥)
   pub kind : (u r : ℕ) → u < partiesOf f → List·Memᴰ r (chainOf f u) → (recordOf f r .kind < labelsOf f) ⊎ (recordOf f r .kind ≡ permitKind)
   -- no two records of a chain have both target and kind equal
   pub different : (u r s : ℕ) → u < partiesOf f → List·Memᴰ r (chainOf f u) → List·Memᴰ s (chainOf f u)

@@ -22,7 +22,8 @@ pub struct Chain {
 pub fn read_chain(file: &[u8], h: Header, u: usize, marks: &mut [u8; 8928]) -> Chain
     requires { ⌜ Framed (now file) h × ((u < h .parties) × (length (now marks) ≡ 8928)) ⌝ }
     ensures { λ _. ⌜ length (now (marks .exit)) ≡ 8928 ⌝ }
-    ensures { λ r. ⌜ ((before : List ℕ) → Marks (now (marks .entry)) before → ChainRead (now (file .entry)) u before r (now (marks .exit))) ⌝ }
+    ensures { λ r. ⌜ ((before : List ℕ) → Marks (now (marks .entry)) before
+        → ChainRead (now (file .entry)) u before r (now (marks .exit))) ⌝ }
 {
     let mut row = masks::empty_row();
     let mut at = u16_at(file, 8 + 2 * u);
@@ -33,7 +34,7 @@ pub fn read_chain(file: &[u8], h: Header, u: usize, marks: &mut [u8; 8928]) -> C
                 row,
             };
         }
-        let x = read_record(file, h.parties, at);
+        let x = read_record(file, h, at);
         let reply = check_record(h, u, x, marks[at - 1], row);
         match reply {
             Check::Refused(e) => return Chain {

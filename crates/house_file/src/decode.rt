@@ -13,6 +13,7 @@ use house_layout::Header;
 use house_layout::Refusal;
 use house_layout::fields_in_range;
 use house_layout::read_header;
+use house_layout::record_size;
 use masks::Row;
 use masks::Table;
 
@@ -121,6 +122,7 @@ fn refused(e: Refusal) -> Reading
     ensures { λ r. ⌜ r .reply ≡ Check.Refused e ⌝ }
 {
     let header = Header {
+        edition: 0,
         parties: 0,
         labels: 0,
         language: 0,
@@ -150,7 +152,7 @@ pub fn read(file: &[u8]) -> Reading
     if !fields_in_range(file, h) {
         return refused(Refusal::Field);
     }
-    if file.len() != 8 + 2 * h.parties + 4 * h.records {
+    if file.len() != 8 + 2 * h.parties + record_size(h.edition) * h.records {
         return refused(Refusal::Length);
     }
     let c = read_chains(file, h);

@@ -1,2 +1,3 @@
 pub mod RefusalNumbers
 pub mod RecordLaws
+pub mod LayoutLaws

@@ -1,25 +1,36 @@
--- A check's reply by its cases, what a legal target and a legal kind are, and a record's checks one by one: by the outcome of each test. Assumes nothing.
-use mathlib.Core.Path.{_≡_, refl, sym, _∙_}
+-- A check's reply by its cases, what an own owner byte, a legal target and a legal kind are, and a record's checks
+-- one by one: by the outcome of each test. Assumes nothing.
+use mathlib.Core.Path.{_≡_, refl, sym, ap, _∙_}
 use mathlib.Core.Logic.{_⊎_, inl, inr, ⊎-elim}
 use mathlib.Core.Bool.{Bool, true, false, not}
 use Prim.Native.Nat.{ℕ, _≤_, _<_}
 use native.Mathlib.Omega.{arith}
 use lib.Dec.{eqb, ltb}
-use borrow.Author.Tests.{ltb-true, eqb-true, eqb-false, ne-eqb, lt-ltb, not-true}
+use borrow.Author.Tests.{ltb-true, eqb-true, eqb-false, eq-eqb, ne-eqb, lt-ltb, not-true, not-false}
 use Rattle.lists.proofs.Cases.{by-test, and-left, and-right}
 use Rattle.house_layout.specs.Layout.{permitKind}
-use Rattle.house_layout.specs.Fields.{legalTarget, legalKind, judgeRecord}
+use Rattle.house_layout.specs.Fields.{foreign, legalTarget, legalKind, judgeRecord}
 use Rattle.house_layout.specs.Kinds.{bitOf}
 use Rattle.house_layout.specs.declared.record.Record.{Record}
+use Rattle.house_layout.specs.declared.record.OwnerByte.{OwnerByte}
+use Rattle.house_layout.specs.declared.record.OwnerByte.the-variants.{Missing, Party}
 use Rattle.house_layout.specs.declared.reply.Check.{Check}
 use Rattle.house_layout.specs.declared.reply.Check.the-variants.{Accepted, Refused}
 use Rattle.house_layout.specs.declared.reply.Refusal.{Refusal}
-use Rattle.house_layout.specs.declared.reply.Refusal.the-variants.{Again, Target, Kind, Repeat}
+use Rattle.house_layout.specs.declared.reply.Refusal.the-variants.{Again, Owner, Target, Kind, Repeat}
 
 -- by the check's reply
 pub by-check : {G : Type 0} (c : Check) → (c ≡ Accepted → G) → ((x : Refusal) → c ≡ Refused x → G) → G
 by-check Accepted g h = g refl
 by-check (Refused x) g h = h x refl
+
+-- an owner byte
+pub owner-is-own : (u : ℕ) (o : OwnerByte) → foreign u o ≡ false → (p : ℕ) → o ≡ Party p → p ≡ u
+owner-is-own u o e p q = eqb-true p u (not-false (eqb p u) (rw q at e))
+
+pub not-foreign : (u : ℕ) (o : OwnerByte) → ((p : ℕ) → o ≡ Party p → p ≡ u) → foreign u o ≡ false
+not-foreign u Missing h = refl
+not-foreign u (Party p) h = ap not (eq-eqb p u (h p refl))
 
 -- a target
 pub target-below : (n u t : ℕ) → legalTarget n u t ≡ true → t < n
@@ -71,6 +82,9 @@ module _ (l : ℕ) (few : l ≤ 8) where
 
 -- a record's checks
 module _ (n l u : ℕ) (r : Record) where
+  abbrev O : Bool
+  O = foreign u (r .owner)
+
   abbrev T : Bool
   T = legalTarget n u (r .target)
 
@@ -81,25 +95,30 @@ module _ (n l u : ℕ) (r : Record) where
   unfolding judgeRecord
   judge-again a p e = rw e
 
-  pub judge-target : (a p : Bool) → a ≡ false → T ≡ false → judgeRecord n l u r a p ≡ Refused Target
+  pub judge-owner : (a p : Bool) → a ≡ false → O ≡ true → judgeRecord n l u r a p ≡ Refused Owner
   unfolding judgeRecord
-  judge-target a p e t = rw (e, t)
+  judge-owner a p e o = rw (e, o)
 
-  pub judge-kind : (a p : Bool) → a ≡ false → T ≡ true → K ≡ false → judgeRecord n l u r a p ≡ Refused Kind
+  pub judge-target : (a p : Bool) → a ≡ false → O ≡ false → T ≡ false → judgeRecord n l u r a p ≡ Refused Target
   unfolding judgeRecord
-  judge-kind a p e t k = rw (e, t, k)
+  judge-target a p e o t = rw (e, o, t)
 
-  pub judge-repeat : (a p : Bool) → a ≡ false → T ≡ true → K ≡ true → p ≡ true → judgeRecord n l u r a p ≡ Refused Repeat
+  pub judge-kind : (a p : Bool) → a ≡ false → O ≡ false → T ≡ true → K ≡ false → judgeRecord n l u r a p ≡ Refused Kind
   unfolding judgeRecord
-  judge-repeat a p e t k q = rw (e, t, k, q)
+  judge-kind a p e o t k = rw (e, o, t, k)
 
-  pub judge-accepts : (a p : Bool) → a ≡ false → T ≡ true → K ≡ true → p ≡ false → judgeRecord n l u r a p ≡ Accepted
+  pub judge-repeat : (a p : Bool) → a ≡ false → O ≡ false → T ≡ true → K ≡ true → p ≡ true → judgeRecord n l u r a p ≡ Refused Repeat
   unfolding judgeRecord
-  judge-accepts a p e t k q = rw (e, t, k, q)
+  judge-repeat a p e o t k q = rw (e, o, t, k, q)
+
+  pub judge-accepts : (a p : Bool) → a ≡ false → O ≡ false → T ≡ true → K ≡ true → p ≡ false → judgeRecord n l u r a p ≡ Accepted
+  unfolding judgeRecord
+  judge-accepts a p e o t k q = rw (e, o, t, k, q)
 
   -- an accepted record passed each test
   pub record Passed (a p : Bool) : Type 0 where
     pub fresh : a ≡ false
+    pub own : O ≡ false
     pub target : T ≡ true
     pub kind : K ≡ true
     pub new : p ≡ false
@@ -110,12 +129,13 @@ module _ (n l u : ℕ) (r : Record) where
   pub judge-passed : (a p : Bool) → judgeRecord n l u r a p ≡ Accepted → Passed a p
   judge-passed a p h =
       by-test a (λ e. unlike (judge-again a p e) h) (λ e.
+      by-test O (λ o. unlike (judge-owner a p e o) h) (λ o.
       by-test T (λ t.
       by-test K (λ k.
-      by-test p (λ q. unlike (judge-repeat a p e t k q) h)
-      (λ q. record { fresh = e; target = t; kind = k; new = q }))
-      (λ k. unlike (judge-kind a p e t k) h))
-      (λ t. unlike (judge-target a p e t) h))
+      by-test p (λ q. unlike (judge-repeat a p e o t k q) h)
+      (λ q. record { fresh = e; own = o; target = t; kind = k; new = q }))
+      (λ k. unlike (judge-kind a p e o t k) h))
+      (λ t. unlike (judge-target a p e o t) h)))
 
   -- the repeat matters for legal targets and kinds only
   pub judge-same : (a b p q : Bool) → a ≡ b → (T ≡ true → K ≡ true → p ≡ q) → judgeRecord n l u r a p ≡ judgeRecord n l u r b q

@@ -1,11 +1,19 @@
--- Where the fields of a house file stand (01, "The house file", edition 1).
+-- Where the fields of a house file stand (01, "The house file"; 02, Ticket 2: edition 2).
+-- Only `recordSize` and `ownerIn` know the editions apart.
 use Prim.Native.Nat.{ℕ, _+_, _*_, _-_}
 use mathlib.Core.List.{List}
+use lib.Dec.{eqb}
+use Rattle.lists.specs.Lists.{pick}
 use Rattle.fields.specs.Numbers.{byteAt, u16At}
 use Rattle.house_layout.specs.declared.header.Header.{Header}
 use Rattle.house_layout.specs.declared.record.Record.{Record}
+use Rattle.house_layout.specs.declared.record.OwnerByte.{OwnerByte}
+use Rattle.house_layout.specs.declared.record.OwnerByte.the-variants.{Missing, Party}
 
--- the header's numbers: n, L, language, D, R
+-- the header's numbers: edition, n, L, language, D, R
+abbrev pub editionOf : List ℕ → ℕ
+editionOf f = byteAt f 0
+
 abbrev pub partiesOf : List ℕ → ℕ
 partiesOf f = byteAt f 1
 
@@ -22,11 +30,26 @@ abbrev pub recordsOf : List ℕ → ℕ
 recordsOf f = u16At f 6
 
 abbrev pub headerOf : List ℕ → Header
-headerOf f = record { parties = partiesOf f; labels = labelsOf f; language = languageOf f; longest = longestOf f; records = recordsOf f }
+headerOf f = record {
+  edition = editionOf f;
+  parties = partiesOf f;
+  labels = labelsOf f;
+  language = languageOf f;
+  longest = longestOf f;
+  records = recordsOf f;
+}
 
--- the length that the header says
+-- the bytes of a record: 4 in edition 1 (01); 02, Ticket 2: "Edition 2 has records of 5 bytes: the four of old and then the owning party"
+unfoldable pub recordSize : ℕ → ℕ
+recordSize edition = pick (eqb edition 1) 4 5
+
+-- the owner that a record says by this byte; in edition 1 there is none, it is "known only from the chain" (02, Ticket 2)
+unfoldable pub ownerIn : ℕ → ℕ → OwnerByte
+ownerIn edition u = pick (eqb edition 1) Missing (Party u)
+
+-- the length that the header says: 8 + 2n + 4R (01), 8 + 2n + 5R (02, Ticket 2)
 abbrev pub sizeOf : List ℕ → ℕ
-sizeOf f = 8 + 2 * partiesOf f + 4 * recordsOf f
+sizeOf f = 8 + 2 * partiesOf f + recordSize (editionOf f) * recordsOf f
 
 -- the number that party u's chain begins with
 abbrev pub headOf : List ℕ → ℕ → ℕ
@@ -34,11 +57,16 @@ headOf f u = u16At f (8 + 2 * u)
 
 -- record r's first byte; records are numbered from 1
 abbrev pub placeOf : List ℕ → ℕ → ℕ
-placeOf f r = 8 + 2 * partiesOf f + 4 * (r - 1)
+placeOf f r = 8 + 2 * partiesOf f + recordSize (editionOf f) * (r - 1)
 
--- record r: target party, kind byte, next
+-- record r: target party, kind byte, next, owner
 unfoldable pub recordOf : List ℕ → ℕ → Record
-recordOf f r = record { target = byteAt f (placeOf f r); kind = byteAt f (placeOf f r + 1); next = u16At f (placeOf f r + 2) }
+recordOf f r = record {
+  target = byteAt f (placeOf f r);
+  kind = byteAt f (placeOf f r + 1);
+  next = u16At f (placeOf f r + 2);
+  owner = ownerIn (editionOf f) (byteAt f (placeOf f r + 4));
+}
 
 -- the kind byte of a permit; every other legal kind is a label
 abbrev pub permitKind : ℕ

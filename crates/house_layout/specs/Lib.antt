@@ -2,3 +2,4 @@ pub mod Layout
 pub mod Reply
 pub mod Fields
 pub mod Kinds
+pub mod Places

@@ -2,12 +2,13 @@
 ghost use mathlib.Core.Path.{_≡_};
 ghost use Prim.Native.Nat.{_≤_};
 ghost use lib.ListN.{length};
-ghost use Rattle.house_layout.specs.Layout.{headerOf};
+ghost use Rattle.house_layout.specs.Layout.{headerOf, recordSize};
 ghost use Rattle.house_layout.specs.Fields.{within, fieldsInRange};
 use fields::u16_at;
 use fields::wide;
 
 pub struct Header {
+    pub edition: usize,
     pub parties: usize,
     pub labels: usize,
     pub language: usize,
@@ -20,12 +21,14 @@ pub fn read_header(file: &[u8]) -> Header
     requires { ⌜ 8 ≤ length (now file) ⌝ }
     ensures { λ r. ⌜ r ≡ headerOf (now (file .entry)) ⌝ }
 {
+    let edition = wide(file[0]);
     let parties = wide(file[1]);
     let labels = wide(file[2]);
     let language = wide(file[3]);
     let longest = wide(file[4]);
     let records = u16_at(file, 6);
     Header {
+        edition,
         parties,
         labels,
         language,
@@ -48,7 +51,7 @@ pub fn fields_in_range(file: &[u8], h: Header) -> bool
     requires { ⌜ (8 ≤ length (now file)) × (h ≡ headerOf (now file)) ⌝ }
     ensures { λ r. ⌜ r ≡ fieldsInRange (now (file .entry)) ⌝ }
 {
-    let edition = file[0] == 1;
+    let edition = in_range(1, 2, h.edition);
     let parties = in_range(1, 32, h.parties);
     let labels = in_range(1, 8, h.labels);
     let language = in_range(0, 3, h.language);
@@ -56,4 +59,14 @@ pub fn fields_in_range(file: &[u8], h: Header) -> bool
     let zero = file[5] == 0;
     let records = h.records <= 8928;
     edition & (parties & (labels & (language & (longest & (zero & records)))))
+}
+
+// A record's bytes in an edition.
+pub fn record_size(edition: usize) -> usize
+    ensures { λ r. ⌜ r ≡ recordSize edition ⌝ }
+{
+    if edition == 1 {
+        return 4;
+    }
+    5
 }

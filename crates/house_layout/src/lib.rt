@@ -6,6 +6,8 @@ mod reply;
 pub use header::Header;
 pub use header::fields_in_range;
 pub use header::read_header;
+pub use header::record_size;
+pub use record::OwnerByte;
 pub use record::Record;
 pub use record::bit_of;
 pub use record::check_record;

@@ -1,7 +1,7 @@
 -- Lists made of pieces: what stands at a place of pieces joined, and pieces over a range. By induction on the list.
 use mathlib.Core.Path.{_≡_, refl, sym, ap, _∙_}
 use mathlib.Core.Logic.{by-cases}
-use mathlib.Core.List.{List, [], _∷_, _++_, map, append-assoc, append-nil}
+use mathlib.Core.List.{List, [], _∷_, _++_, map, append-assoc, append-nil, List·Memᴰ, List·Memᴰ·head, List·Memᴰ·tail}
 use Prim.Native.Nat.{ℕ, zero, suc, _+_, _*_, _-_, _≤_, _<_}
 use native.Mathlib.Omega.{arith}
 use native.Mathlib.Nat.{mul-suc, mul-zero, suc-mul}
@@ -38,26 +38,39 @@ module _ {A B : Type 0} where
   flat-snoc f l x = flat-append f l (x ∷ []) ∙ ap (λ (m : List B). flatMap f l ++ m) (flat-one f x)
 
   -- pieces of k elements each: so many in all, and element k·i + j is element j of piece i
-  module _ (f : A → List B) (k : ℕ) (sized : (x : A) → length (f x) ≡ k) where
-    pub pieces-length : (l : List A) → length (flatMap f l) ≡ k * length l
-    unfolding flatMap
-    pieces-length [] = sym (mul-zero k)
-    pieces-length (x ∷ l) = omega (arith, length-append (f x) (flatMap f l), sized x, pieces-length l, mul-suc k (length l))
+  module _ (f : A → List B) (k : ℕ) where
+    abbrev pub Sized : List A → Type 0
+    Sized l = (x : A) → List·Memᴰ x l → length (f x) ≡ k
 
-    pub pieces-at : (l : List A) (i j : ℕ) (d : A) (e : B) → i < length l → j < k → getD (flatMap f l) (k * i + j) e ≡ getD (f (getD l i d)) j e
+    pub pieces-length : (l : List A) → Sized l → length (flatMap f l) ≡ k * length l
     unfolding flatMap
-    pieces-at [] i j d e h g = absurd (omega arith)
-    pieces-at (x ∷ l) zero j d e h g =
+    pieces-length [] s = sym (mul-zero k)
+    pieces-length (x ∷ l) s =
+        omega (
+          arith,
+          length-append (f x) (flatMap f l),
+          s x (List·Memᴰ·head refl),
+          pieces-length l (λ y m. s y (List·Memᴰ·tail m)),
+          mul-suc k (length l),
+        )
+
+    pub pieces-at : (l : List A) → Sized l → (i j : ℕ) (d : A) (e : B) → i < length l → j < k
+        → getD (flatMap f l) (k * i + j) e ≡ getD (f (getD l i d)) j e
+    unfolding flatMap
+    pieces-at [] s i j d e h g = absurd (omega arith)
+    pieces-at (x ∷ l) s zero j d e h g =
         let z : k * 0 + j ≡ j = omega (arith, mul-zero k) in
-        rw z (List·getD-append (f x) (flatMap f l) e j (omega (arith, sized x)))
-    pieces-at (x ∷ l) (suc i) j d e h g =
-        let z : k * suc i + j ≡ length (f x) + (k * i + j) = omega (arith, mul-suc k i, sized x) in
-        rw z (getD-append-add (f x) (flatMap f l) (k * i + j) e ∙ pieces-at l i j d e (omega arith) g)
+        rw z (List·getD-append (f x) (flatMap f l) e j (omega (arith, s x (List·Memᴰ·head refl))))
+    pieces-at (x ∷ l) s (suc i) j d e h g =
+        let z : k * suc i + j ≡ length (f x) + (k * i + j) = omega (arith, mul-suc k i, s x (List·Memᴰ·head refl)) in
+        rw z (getD-append-add (f x) (flatMap f l) (k * i + j) e ∙ pieces-at l (λ y m. s y (List·Memᴰ·tail m)) i j d e (omega arith) g)
 
 -- pieces over a range
 pub range-suc : (n : ℕ) → range (suc n) ≡ range n ++ (n ∷ [])
 unfolding range upFrom
-range-suc n = let e : suc n ≡ n + 1 = omega arith in ap (upFrom 0) e ∙ up-append 0 n 1 ∙ ap (λ (k : ℕ). upFrom 0 n ++ (k ∷ [])) (omega arith)
+range-suc n =
+    let e : suc n ≡ n + 1 = omega arith in
+    ap (upFrom 0) e ∙ up-append 0 n 1 ∙ ap (λ (k : ℕ). upFrom 0 n ++ (k ∷ [])) (omega arith)
 
 module _ {B : Type 0} (f : ℕ → List B) where
   -- the pieces before piece n
@@ -85,7 +98,9 @@ module _ {B : Type 0} (f : ℕ → List B) where
 
   pub flat-skip : (c n u : ℕ) → ((v : ℕ) → v < n → length (f v) ≤ c) → u < n → length (f u) ≡ 0 → length (flatMap f (range n)) ≤ (n - 1) * c
   flat-skip c zero u h l z = absurd (omega arith)
-  flat-skip c (suc zero) u h l z = let e : u ≡ 0 = omega arith in omega (arith, flat-step 0, flat-none, ap (λ (k : ℕ). length (f k)) (sym e))
+  flat-skip c (suc zero) u h l z =
+      let e : u ≡ 0 = omega arith in
+      omega (arith, flat-step 0, flat-none, ap (λ (k : ℕ). length (f k)) (sym e))
   flat-skip c (suc (suc n)) u h l z =
       let e : suc (suc n) - 1 ≡ suc n = omega arith in
       let k : suc n - 1 ≡ n = omega arith in
@@ -93,10 +108,18 @@ module _ {B : Type 0} (f : ℕ → List B) where
       (λ q.
       let i : length (flatMap f (range (suc n))) ≤ n * c = rw k at (flat-skip c (suc n) u (λ v g. h v (omega arith)) q z) in
       rw e (omega (arith, flat-step (suc n), h (suc n) (omega arith), i, suc-mul n c)))
-      (λ q. let y : u ≡ suc n = omega arith in rw e (omega (arith, flat-step (suc n), ap (λ (j : ℕ). length (f j)) (sym y), flat-bound c (suc n) (λ v g. h v (omega arith)))))
+      (λ q.
+      let y : u ≡ suc n = omega arith in
+      rw e (omega (
+        arith,
+        flat-step (suc n),
+        ap (λ (j : ℕ). length (f j)) (sym y),
+        flat-bound c (suc n) (λ v g. h v (omega arith)),
+      )))
 
   -- element i of piece u
-  pub flat-at : (n u i : ℕ) (d : B) → u < n → i < length (f u) → getD (flatMap f (range n)) (length (flatMap f (range u)) + i) d ≡ getD (f u) i d
+  pub flat-at : (n u i : ℕ) (d : B) → u < n → i < length (f u)
+      → getD (flatMap f (range n)) (length (flatMap f (range u)) + i) d ≡ getD (f u) i d
   flat-at zero u i d h l = absurd (omega arith)
   flat-at (suc n) u i d h l =
       by-cases (decLt u n)

@@ -42,7 +42,7 @@ fn answer(file: &[u8]) {
 }
 
 fn main() {
-    let mut file = [0u8; 35785];
+    let mut file = [0u8; 44713];
     let input = read_input(&mut file);
     match input {
         Input::Bytes(n) => answer(&file[..n]),

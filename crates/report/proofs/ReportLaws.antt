@@ -1,5 +1,5 @@
--- What is printed fits: a verdict's line has at most 64 bytes, what is written is inside its slice, and standard input that is cut is refused.
--- The line, and the list's part in the tail behind it, are the text of the file. Assumes nothing.
+-- What is printed fits: a verdict's line has at most 64 bytes, what is written is inside its slice, and standard input that is cut is
+-- refused. The line, and the list's part in the tail behind it, are the text of the file. Assumes nothing.
 use mathlib.Core.Path.{_≡_, refl, sym, ap, _∙_}
 use mathlib.Core.List.{List, [], _++_, append-nil}
 use Prim.Native.Nat.{ℕ, _+_, _-_, _≤_, _<_}
@@ -14,6 +14,7 @@ use borrow.Author.Tests.{leb-true, leb-false}
 use Rattle.lists.proofs.Cases.{by-test}
 use Rattle.rebac.specs.Verdict.{convertible}
 use Rattle.rebac.specs.Existence.{verdictOf}
+use Rattle.house_layout.specs.Layout.{editionOf, recordsOf}
 use Rattle.house_layout.specs.Reply.{numberOf}
 use Rattle.house_file.specs.Check.{checkOf}
 use Rattle.house_layout.specs.declared.reply.Check.the-variants as check
@@ -30,9 +31,11 @@ use Rattle.conversion.specs.declared.mine.MiningReply.{MiningReply}
 use Rattle.conversion.specs.declared.mine.MiningReply.the-variants.{Refused as RefusedMining, Wrote as WroteList}
 use Rattle.conversion.specs.declared.verdict.VerdictReply.{VerdictReply}
 use Rattle.conversion.specs.declared.verdict.VerdictReply.the-variants.{Refused, Convertible, NoWord, Rival}
+use Rattle.house_layout.proofs.LayoutLaws.{size-most}
 use Rattle.house_layout.proofs.RefusalNumbers.{number-small}
 use Rattle.house_layout.proofs.RecordLaws.{by-check}
-use Rattle.conversion.proofs.Demand3.{convertible-accepted, convertible-verdict, mining-exact, mining-short, length-bound, no-word-parties, rival-parties}
+use Rattle.conversion.proofs.Demand3.{convertible-accepted, convertible-verdict, mining-exact}
+use Rattle.conversion.proofs.Demand3.{mining-short, length-bound, no-word-parties, rival-parties}
 use Rattle.fields.specs.Decimal.{decimalText}
 use Rattle.report.specs.Report.{Inside, pairText, refusedLine, verdictLine, listPart, fileText, reportText}
 use Rattle.fields.proofs.WroteLaws.{wrote-two}
@@ -59,30 +62,31 @@ pub line-fits : (f : List ℕ) → length (verdictLine (verdictCall f)) ≤ 64
 unfolding verdictCall verdictLine
 line-fits f = by-check (checkOf f) (λ e. accepted-fits f e (verdictCall f) refl) (λ x e. rw e (omega (arith, refused-fits x)))
 
--- "more is cut and so has no legal length"
-pub cut-refused : (input : List ℕ) → 35785 ≤ length input → checkOf (take 35785 input) ≡ check.Accepted → ⊥
+-- "more is cut and so has no legal length": in neither edition
+pub cut-refused : (input : List ℕ) → 44713 ≤ length input → checkOf (take 44713 input) ≡ check.Accepted → ⊥
 cut-refused input h e =
-    let g = framing (take 35785 input) e in
-    omega (arith, length-take-le 35785 input h, g .size, g .fields .parties .1, g .fields .records)
+    let f = take 44713 input in
+    let g = framing f e in
+    omega (arith, length-take-le 44713 input h, g .size, g .fields .parties .1, g .fields .records, size-most (editionOf f) (recordsOf f))
 
--- "up to 35,785 bytes; more is cut": what is read of standard input is its first 35,785 bytes, and the text of these is the input's
-pub read-text : (input : List ℕ) → fileText (take 35785 input) ≡ reportText input
+-- "up to 44,713 bytes; more is cut": what is read of standard input is its first 44,713 bytes, and the text of these is the input's
+pub read-text : (input : List ℕ) → fileText (take 44713 input) ≡ reportText input
 unfolding reportText
 read-text input = refl
 
-pub whole-text : (input : List ℕ) → length input ≤ 35785 → fileText input ≡ reportText input
-whole-text input h = ap fileText (sym (take-all 35785 input h)) ∙ read-text input
+pub whole-text : (input : List ℕ) → length input ≤ 44713 → fileText input ≡ reportText input
+whole-text input h = ap fileText (sym (take-all 44713 input h)) ∙ read-text input
 
 -- a refused file has its line alone, and so has input that is cut
 pub refused-text : (f : List ℕ) (x : Refusal) → checkOf f ≡ check.Refused x → fileText f ≡ refusedLine x
 unfolding fileText verdictCall verdictLine
 refused-text f x e = rw e (append-nil (refusedLine x))
 
-pub cut-text : (input : List ℕ) → 35785 ≤ length input → (x : Refusal) × (reportText input ≡ refusedLine x)
+pub cut-text : (input : List ℕ) → 44713 ≤ length input → (x : Refusal) × (reportText input ≡ refusedLine x)
 cut-text input h =
-    by-check (checkOf (take 35785 input))
+    by-check (checkOf (take 44713 input))
     (λ e. absurd (cut-refused input h e))
-    (λ x e. (x, sym (read-text input) ∙ refused-text (take 35785 input) x e))
+    (λ x e. (x, sym (read-text input) ∙ refused-text (take 44713 input) x e))
 
 pub inside : (n : ℕ) (l : List ℕ) → n ≤ length l → Inside n l
 inside n l h = (h, sym (length-take-le n l h))
@@ -105,18 +109,25 @@ wrote-inside {old} {x} {new} {end} w =
 tail-put : (b : List ℕ) (at : ℕ) (x : List ℕ) → take at b ++ put (drop at b) 0 x ≡ put b at x
 unfolding put
 tail-put b at x =
-    let d : drop (0 + length x) (drop at b) ≡ drop (at + length x) b = ap (λ (k : ℕ). drop k (drop at b)) (zero-add (length x)) ∙ drop-drop (length x) at b in
+    let d : drop (0 + length x) (drop at b) ≡ drop (at + length x) b =
+    ap (λ (k : ℕ). drop k (drop at b)) (zero-add (length x))
+    ∙ drop-drop (length x) at b in
     ap (λ (l : List ℕ). take at b ++ (x ++ l)) d
 
 put-tail : (b y : List ℕ) (at : ℕ) → at ≤ length b → putMid at (length b - at) b y ≡ take at b ++ y
 put-tail b y at h =
-    ap (λ (z : List ℕ). take at b ++ (y ++ z)) (drop-of-length-le (drop at b) {i = length b - at} (omega (arith, length-drop at b))) ∙ ap (λ (z : List ℕ). take at b ++ z) (append-nil y)
+    ap (λ (z : List ℕ). take at b ++ (y ++ z))
+    (drop-of-length-le (drop at b) {i = length b - at} (omega (arith, length-drop at b)))
+    ∙ ap (λ (z : List ℕ). take at b ++ z) (append-nil y)
 
 pub wrote-tail :
     (b : List ℕ) (at : ℕ) {x new : List ℕ} {end : ℕ} → at ≤ length b → Wrote (midOf at (length b - at) b) 0 x new end
     → Wrote b at x (putMid at (length b - at) b new) (at + end)
 wrote-tail b at {x} {new} {end} h w = record {
-  bytes = put-tail b new at h ∙ ap (λ (l : List ℕ). take at b ++ l) (w .bytes ∙ ap (λ (l : List ℕ). put l 0 x) (part-to-end b at)) ∙ tail-put b at x;
+  bytes =
+      put-tail b new at h
+      ∙ ap (λ (l : List ℕ). take at b ++ l) (w .bytes ∙ ap (λ (l : List ℕ). put l 0 x) (part-to-end b at))
+      ∙ tail-put b at x;
   place = omega (arith, w .place);
 }
 
@@ -138,13 +149,17 @@ module _ (f : List ℕ) {v : VerdictReply} (e : verdictCall f ≡ v) {old new : 
       let q = wrote-two w p (omega arith) in
       (rw (text-by f v e) q, wrote-inside q)
 
-bytes-list : (f : List ℕ) → checkOf f ≡ check.Accepted → verdictOf (matterOf f) ≡ convertible → IsList (bytesOf (matterOf f)) (listOf (matterOf f))
+bytes-list : (f : List ℕ) → checkOf f ≡ check.Accepted → verdictOf (matterOf f) ≡ convertible
+    → IsList (bytesOf (matterOf f)) (listOf (matterOf f))
 unfolding bytesOf listOf
 bytes-list f e v = mined-is-list f e refl v
 
 -- what mining answers for a convertible file, lent 1,024 bytes of scratch and 65,536 of output: the list, or that it is too long
 abbrev pub MinedAs : List ℕ → ℕ → List ℕ → MiningReply → Type 0
-MinedAs f k list (WroteList j) = (j ≤ 65536) × ((j ≤ length list) × (IsList (take j list) (listOf (matterOf f)) × (listPart (matterOf f) (Convertible k) ≡ listText (listOf (matterOf f)))))
+MinedAs f k list (WroteList j) =
+    (j ≤ 65536)
+    × ((j ≤ length list) × (IsList (take j list) (listOf (matterOf f))
+    × (listPart (matterOf f) (Convertible k) ≡ listText (listOf (matterOf f)))))
 MinedAs f k list (RefusedMining x) = listPart (matterOf f) (Convertible k) ≡ refusedLine x
 
 pub mined-as : (f : List ℕ) (k : ℕ) → verdictCall f ≡ Convertible k → (scratch old : List ℕ) → length scratch ≡ 1024 → length old ≡ 65536
@@ -155,7 +170,10 @@ mined-as f k v scratch old s o =
     (λ t.
     let l : k ≤ 65536 = leb-true k 65536 t in
     let m = mining-exact f e k v scratch old (omega arith) (omega arith) in
-    rw (m .answer) (omega (arith, m .size), (omega (arith, length-append (bytesOf (matterOf f)) (drop (length (bytesOf (matterOf f))) old)), (rw (take-append-seam (bytesOf (matterOf f)) (drop (length (bytesOf (matterOf f))) old)) (bytes-list f e (convertible-verdict f e k v .0)), rw t))))
+    let written : List ℕ = bytesOf (matterOf f) in
+    let kept : List ℕ = drop (length written) old in
+    let is = bytes-list f e (convertible-verdict f e k v .0) in
+    rw (m .answer) (omega (arith, m .size), (omega (arith, length-append written kept), (rw (take-append-seam written kept) is, rw t))))
     (λ t.
     let l : 65536 < k = leb-false k 65536 t in
     rw (mining-short f e k v (length scratch) (length old) (omega arith) (omega arith), t))

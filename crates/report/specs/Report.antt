@@ -69,6 +69,6 @@ listPart M (Rival p q) = []
 unfoldable pub fileText : List ℕ → List ℕ
 fileText f = verdictLine (verdictCall f) ++ listPart (matterOf f) (verdictCall f)
 
--- "reads a file from standard input (up to 35,785 bytes; more is cut ..) and prints"
+-- "reads a file from standard input (..; more is cut ..) and prints"; 02, Ticket 2: "The program reads up to 44,713 bytes."
 unfoldable pub reportText : List ℕ → List ℕ
-reportText input = fileText (take 35785 input)
+reportText input = fileText (take 44713 input)

@@ -1,17 +1,17 @@
 -- Case A's file and refused files, by computation: the file's matter is row A's, so the rows' theorem gives the rest. Assumes nothing.
-use Prim.Native.Nat.{ℕ, zero, suc, _+_, _≤_}
+use Prim.Native.Nat.{ℕ, zero, suc, _≤_}
 use native.Mathlib.Omega.{arith}
 use mathlib.Core.Path.{_≡_, refl, _∙_}
 use mathlib.Core.Bool.{true, false}
-use mathlib.Core.List.{List, _∷_, _++_, map, List·Memᴰ, List·Memᴰ·head, append-nil}
+use mathlib.Core.List.{List, [], _∷_, _++_, map, List·Memᴰ, List·Memᴰ·head, append-nil}
 use lib.ListN.{length}
 use lib.Dec.{eqb, ltb}
 use borrow.Author.Tests.{eqb-true, le-ltb, ne-eqb}
 use Rattle.lists.specs.Lists.{allOf, anyOf, upFrom}
 use Rattle.lists.proofs.Cases.{and-false}
-use Rattle.lists.proofs.ListLaws.{all-in, any-out, up-in}
+use Rattle.lists.proofs.ListLaws.{all-in, any-out}
 use Rattle.fields.specs.Numbers.{u16At}
-use Rattle.house_layout.specs.Layout.{recordOf}
+use Rattle.house_layout.specs.Layout.{recordSize, ownerIn, recordOf}
 use Rattle.house_layout.specs.Reply.{numberOf}
 use Rattle.house_layout.specs.Fields.{fieldsInRange, judgeRecord}
 use Rattle.house_file.specs.Check.{says, recordCheck, walkChain, walkChains, chainsCheck, checkOf}
@@ -26,11 +26,13 @@ use Rattle.fields.specs.Decimal.{digitsIn, decimalText}
 use Rattle.report.specs.Report.{refusedLine, verdictLine, fileText}
 use Rattle.worked_cases.specs.Text.{bytesIn}
 use Rattle.worked_cases.specs.Cases.{Row, RowHolds, rowA, listedEdge, listedPair}
-use Rattle.worked_cases.specs.Files.{fileA, FileHolds, withParties, withRecords, RefusedFile, refusedFiles, Refuses}
+use Rattle.worked_cases.specs.Files.{fileA, fileA2, FileHolds, withParties, withRecords, RefusedFile, refusedFiles, Refuses}
 use Rattle.worked_cases.proofs.CasesHold.{same-at, cases-hold}
+use Rattle.worked_cases.proofs.CopiesHold.{copy-a}
 
 accepted : checkOf fileA ≡ check.Accepted
-unfolding allOf anyOf upFrom u16At recordOf fieldsInRange judgeRecord says recordCheck walkChain walkChains chainsCheck checkOf
+unfolding allOf anyOf upFrom u16At recordSize ownerIn recordOf fieldsInRange judgeRecord
+    says recordCheck walkChain walkChains chainsCheck checkOf
 accepted = refl
 
 -- a number from 3 on, by the tests
@@ -59,7 +61,7 @@ from-three A a b c d (suc (suc (suc k))) =
     })
 
 edge-same : (l u v : ℕ) → isEdge fileA u v l ≡ rowA .matter .edge u v l
-unfolding anyOf u16At recordOf says chainFrom chainOf recorded isEdge listedEdge
+unfolding anyOf u16At recordSize recordOf says chainFrom chainOf recorded isEdge listedEdge
 edge-same zero =
     from-three (λ u. (v : ℕ) → isEdge fileA u v 0 ≡ rowA .matter .edge u v 0)
     (from-three (λ v. isEdge fileA 0 v 0 ≡ rowA .matter .edge 0 v 0) refl refl refl (λ v f. simp (f .one, f .oneTo, f .twoTo)))
@@ -71,7 +73,7 @@ edge-same (suc l) = λ u v.
     rw (le-ltb (suc l) 1 (omega arith), and-false (eqb u 0) (and-false (eqb v 1) q), and-false (eqb u 1) (and-false (eqb v 2) q))
 
 permit-same : (u v : ℕ) → isPermitted fileA u v ≡ rowA .matter .permit u v
-unfolding anyOf u16At recordOf says chainFrom chainOf recorded isPermitted listedPair
+unfolding anyOf u16At recordSize recordOf says chainFrom chainOf recorded isPermitted listedPair
 permit-same =
     from-three (λ u. (v : ℕ) → isPermitted fileA u v ≡ rowA .matter .permit u v)
     (from-three (λ v. isPermitted fileA 0 v ≡ rowA .matter .permit 0 v) refl refl refl (λ v f. simp (f .two, f .oneTo, f .twoTo)))
@@ -81,7 +83,14 @@ permit-same =
 
 matter-same : matterOf fileA ≡ rowA .matter
 unfolding matterOf
-matter-same = λ i. record { parties = 3; labels = 1; language = 0; longest = 2; edge = λ u v l. edge-same l u v i; permit = λ u v. permit-same u v i }
+matter-same = λ i. record {
+  parties = 3;
+  labels = 1;
+  language = 0;
+  longest = 2;
+  edge = λ u v l. edge-same l u v i;
+  permit = λ u v. permit-same u v i;
+}
 
 -- an accepted file with a row's matter has the row's reply and text
 of-row : (f : List ℕ) (c : Row) → checkOf f ≡ check.Accepted → matterOf f ≡ c .matter → RowHolds c → FileHolds f c
@@ -99,6 +108,10 @@ of-row f c e m h =
 pub file-a-holds : FileHolds fileA rowA
 file-a-holds = of-row fileA rowA accepted matter-same (cases-hold rowA (List·Memᴰ·head refl))
 
+-- the same in edition 2: it is A's copy, so it says what A does
+pub file-a2-holds : FileHolds fileA2 rowA
+file-a2-holds = of-row fileA2 rowA (copy-a .file .accepted) (copy-a .file .matter ∙ matter-same) (cases-hold rowA (List·Memᴰ·head refl))
+
 -- lent enough, mining writes the list, returns 7, and permit on the list gives back the permit table
 pub file-a-mined : (scratch output : List ℕ) → 1024 ≤ length scratch → 7 ≤ length output → MinesList fileA 7 scratch output
 file-a-mined = mining-exact fileA accepted 7 (file-a-holds .reply)
@@ -112,33 +125,37 @@ file-a-length = refl
 
 -- the refusals, each by its file
 checked : map (λ c. checkOf (c .file)) refusedFiles ≡ map (λ c. check.Refused (c .refusal)) refusedFiles
-unfolding allOf anyOf upFrom u16At recordOf fieldsInRange judgeRecord says recordCheck walkChain walkChains chainsCheck checkOf
+unfolding allOf anyOf upFrom u16At recordSize ownerIn recordOf fieldsInRange judgeRecord
+    says recordCheck walkChain walkChains chainsCheck checkOf
 checked = refl
 
 numbered : map (λ c. numberOf (c .refusal)) refusedFiles ≡ map (λ c. c .number) refusedFiles
 numbered = refl
 
-lined : map (λ c. refusedLine (c .refusal)) refusedFiles ≡ map (λ c. bytesIn "refused " ++ ((48 + c .number) ∷ bytesIn "\n")) refusedFiles
+lined : map (λ c. refusedLine (c .refusal)) refusedFiles ≡ map (λ c. bytesIn (c .line)) refusedFiles
 unfolding digitsIn decimalText refusedLine bytesIn
 lined = refl
 
 pub files-refused : (c : RefusedFile) → List·Memᴰ c refusedFiles → Refuses c
 unfolding verdictCall verdictLine fileText
 files-refused c m =
-    let e : checkOf (c .file) ≡ check.Refused (c .refusal) = same-at (λ c. checkOf (c .file)) (λ c. check.Refused (c .refusal)) refusedFiles checked m in
+    let e : checkOf (c .file) ≡ check.Refused (c .refusal) =
+    same-at (λ c. checkOf (c .file)) (λ c. check.Refused (c .refusal)) refusedFiles checked m in
     record {
       check = e;
       number = same-at (λ c. numberOf (c .refusal)) (λ c. c .number) refusedFiles numbered m;
-      text = rw (e, append-nil, same-at (λ c. refusedLine (c .refusal)) (λ c. bytesIn "refused " ++ ((48 + c .number) ∷ bytesIn "\n")) refusedFiles lined m);
+      text = rw (e, append-nil, same-at (λ c. refusedLine (c .refusal)) (λ c. bytesIn (c .line)) refusedFiles lined m);
     }
 
--- each of the numbers 1 to 8 is some row's
-pub every-refusal : (k : ℕ) → 1 ≤ k → k ≤ 8 → (c : RefusedFile) × List·Memᴰ c refusedFiles × (c .number ≡ k)
-every-refusal k a b =
-    let r = any-out (λ c. eqb (c .number) k) refusedFiles (all-in (λ k. anyOf (λ c. eqb (c .number) k) refusedFiles) (upFrom 1 8) occurring (up-in 1 8 k a (omega arith))) in
+-- each number that a file can be refused by is some row's
+pub every-refusal : (k : ℕ) → List·Memᴰ k (upFrom 1 8 ++ (15 ∷ [])) → (c : RefusedFile) × List·Memᴰ c refusedFiles × (c .number ≡ k)
+every-refusal k m =
+    let r =
+    any-out (λ c. eqb (c .number) k) refusedFiles
+    (all-in (λ k. anyOf (λ c. eqb (c .number) k) refusedFiles) (upFrom 1 8 ++ (15 ∷ [])) occurring m) in
     (r .0, r .1, eqb-true (r .0 .number) k (r .2))
   where
-    occurring : allOf (λ k. anyOf (λ c. eqb (c .number) k) refusedFiles) (upFrom 1 8) ≡ true
+    occurring : allOf (λ k. anyOf (λ c. eqb (c .number) k) refusedFiles) (upFrom 1 8 ++ (15 ∷ [])) ≡ true
     occurring = unfold allOf anyOf upFrom in refl
 
 -- "R 8,928 passes its field", "n 32 passes"

@@ -3,7 +3,7 @@ use mathlib.Core.Path.{_≡_, refl, sym, _∙_}
 use Rattle.house_file.specs.Check.{checkOf}
 use Rattle.house_layout.specs.declared.reply.Check.the-variants.{Accepted}
 use Rattle.graph.specs.Archive.{matterOf}
-use Rattle.canonical.specs.Calls.{writeCall}
+use Rattle.canonical.specs.Calls.{writeCall, copyFor}
 use Rattle.canonical.specs.Masks.{Stands}
 use Rattle.canonical.proofs.DecodedLaws.{decoded-stands}
 use borrow.Author.Needs.{needs}
@@ -14,7 +14,8 @@ accepted : (c : tie.After-enum-told) → checkOf (c .before .before .before .bef
 accepted c = sym (c .before .before .read .ensures .reply) ∙ c .enum-told .given .1
 
 stands : (c : tie.After-enum-told)
-    → Stands (matterOf (c .before .before .before .before .before .args .file .now)) (c .before .before .read .result .house .header) (c .before .before .read .result .house .kinds)
+    → Stands (matterOf (c .before .before .before .before .before .args .file .now)) (c .before .before .read .result .house .header)
+    (c .before .before .read .result .house .kinds)
 stands c = decoded-stands _ (accepted c) _ (c .before .before .read .ensures .house (accepted c))
 
 read-requires : tie.Need-read-requires
@@ -27,7 +28,9 @@ enum-told : tie.Need-enum-told
 enum-told c = search needs
 
 write-matter-requires : tie.Need-write-matter-requires
-write-matter-requires c κs = (matterOf (c .before .before .before .before .before .before .before .before .before .args .file .now), stands (c .before .before .before .before))
+write-matter-requires c κs =
+    let t = c .before .before .before .before in
+    (matterOf (t .before .before .before .before .before .args .file .now), stands t)
 
 returns : tie.Need-returns
 unfolding writeCall
@@ -39,10 +42,11 @@ same-length : tie.Need-same-length
 same-length c = search needs
 
 returns-2 : tie.Need-returns-2
-unfolding writeCall
+unfolding writeCall copyFor
 returns-2 c =
     let t = c .before .before .before .before .before .before .before in
-    rw (accepted t) (c .before .before .write-matter .ensures (matterOf (t .before .before .before .before .before .args .file .now)) (stands t))
+    let f = t .before .before .before .before .before .args .file .now in
+    rw (accepted t) (c .before .before .write-matter .ensures (matterOf f) (stands t))
 
 pub write-call-spec : {M : Type 1} → statement M
 write-call-spec =

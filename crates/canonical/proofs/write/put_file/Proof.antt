@@ -2,7 +2,7 @@
 use mathlib.Core.Path.{_≡_, sym, _∙_}
 use native.Mathlib.Omega.{arith}
 use lib.ListN.{length}
-use Rattle.canonical.specs.Canonical.{headerBytes, headsBy, headerFor}
+use Rattle.canonical.specs.Canonical.{headerBytes, headsBy, headerFor, writtenEdition}
 use Rattle.canonical.specs.Masks.{matterIn, numbersIn}
 use Rattle.canonical.proofs.EntryLaws.{count-few}
 use Rattle.canonical.proofs.LayoutLaws.{header-size, heads-size, first-most}
@@ -18,18 +18,28 @@ after-header c =
     let a = c .before .before .before .args in
     put-kept (a .out .now) _ 0 (headerBytes (a .h)) (c .put-header .ensures) (omega (arith, header-size (a .h)))
 
-after-heads : (c : tie.After-put-heads) → length (c .put-heads .last .0) ≡ length (c .before .before .before .before .before .before .before .args .out .now)
+after-heads : (c : tie.After-put-heads)
+    → length (c .put-heads .last .0) ≡ length (c .before .before .before .before .before .before .before .args .out .now)
 after-heads c =
     let a = c .before .before .before .before .before .before .before .args in
     let e = after-header (c .before .before .before .before) in
     let l = heads-size (numbersIn (a .f)) (a .h .parties) in
-    put-kept (c .before .before .before .before .put-header .last .0) _ 8 (headsBy (numbersIn (a .f)) (a .h .parties)) (c .put-heads .ensures) (omega arith) ∙ e
+    let b = c .before .before .before .before .put-header .last .0 in
+    put-kept b _ 8 (headsBy (numbersIn (a .f)) (a .h .parties)) (c .put-heads .ensures) (omega arith) ∙ e
 
 put-header-requires : tie.Need-put-header-requires
 put-header-requires c κs =
     let p = c .before .before .pre in
     let n = count-few (matterIn (c .before .before .args .h) (c .before .before .args .kinds)) (p .parties) (p .labels) in
-    (omega arith, (omega arith, (p .language, (p .longest, (omega arith, omega arith)))))
+    record {
+      edition = omega (arith, p .edition);
+      parties = omega arith;
+      labels = omega arith;
+      language = p .language;
+      longest = p .longest;
+      records = omega arith;
+      room = omega arith;
+    }
 
 put-heads-requires : tie.Need-put-heads-requires
 put-heads-requires c κs =
@@ -43,7 +53,16 @@ put-records-requires : tie.Need-put-records-requires
 put-records-requires c κs =
     let p = c .before .before .before .before .before .before .before .before .before .before .pre in
     let e = after-heads (c .before .before .before) in
-    record { parties = p .parties; labels = p .labels; language = p .language; longest = p .longest; records = p .records; firsts = p .firsts; room = omega arith }
+    record {
+      edition = p .edition;
+      parties = p .parties;
+      labels = p .labels;
+      language = p .language;
+      longest = p .longest;
+      records = p .records;
+      firsts = p .firsts;
+      room = omega arith;
+    }
 
 same-length : tie.Need-same-length
 same-length c = search needs
@@ -56,10 +75,19 @@ returns c =
     let header = c .before .before .before .before .before .before .before .before .before .before .put-header .ensures in
     let heads = c .before .before .before .before .before .before .put-heads .ensures in
     let M = matterIn (s .args .h) (s .args .kinds) in
+    let e = p .edition in
     let n = p .records in
-    let q : headerFor M ≡ s .args .h =
-    λ j. record { parties = s .args .h .parties; labels = s .args .h .labels; language = s .args .h .language; longest = s .args .h .longest; records = sym n j } in
-    file-put M (s .args .h) (s .args .f) (p .firsts) q (s .args .out .now) _ _ _ (omega arith) header heads (c .before .before .put-records .ensures)
+    let q : headerFor writtenEdition M ≡ s .args .h =
+    λ j. record {
+      edition = sym e j;
+      parties = s .args .h .parties;
+      labels = s .args .h .labels;
+      language = s .args .h .language;
+      longest = s .args .h .longest;
+      records = sym n j;
+    } in
+    let records = c .before .before .put-records .ensures in
+    file-put M (s .args .h) (s .args .f) (p .firsts) q (s .args .out .now) _ _ _ (omega arith) header heads records
 
 pub put-file-spec : {M : Type 1} → statement M
 put-file-spec =

@@ -7,6 +7,7 @@ use native.Mathlib.Omega.{arith}
 use lib.ListN.{length, getD, length-append}
 use Rattle.fields.specs.Writing.{put}
 use Rattle.fields.proofs.PutLaws.{put-nil, put-kept}
+use Rattle.house_layout.specs.declared.record.OwnerByte.the-variants.{Party}
 use Rattle.canonical.specs.Canonical.{kindBytes}
 use Rattle.canonical.specs.Masks.{pairBytes}
 use Rattle.canonical.proofs.CountLaws.{kindsTo, kinds-none, kinds-all, kinds-more, kinds-same, kinds-most, kinds-room}
@@ -16,21 +17,22 @@ use Rattle.canonical.proofs.write.put_pair.Statement.{statement}
 use Rattle.canonical.proofs.write.put_pair.Tie as tie
 
 abbrev Inv-loop : tie.InvT-loop
-Inv-loop out₀ base target labels mask number end next₀ place₀ out next place =
+Inv-loop out₀ base owner target labels mask number end next₀ place₀ out next place =
     (place ≤ labels + 1)
     × ((length out ≡ length out₀)
     × ((next ≡ number + length (kindsTo labels mask place))
-    × (out ≡ put out₀ (base + 4 * (number - 1)) (pairBytes end number target (kindsTo labels mask place)))))
+    × (out ≡ put out₀ (base + 5 * (number - 1)) (pairBytes end number owner target (kindsTo labels mask place)))))
 
 abbrev μ-loop : tie.MeasureT-loop
-μ-loop out₀ base target labels mask number end next₀ place₀ out next place = labels + 1 - place
+μ-loop out₀ base owner target labels mask number end next₀ place₀ out next place = labels + 1 - place
 
 -- the record to write is before the chain's end
 room : (c : tie.Then1 Inv-loop μ-loop) → c .before .before .before .loop .next + 1 ≤ c .before .before .before .before .before .args .end
 room c =
     let l = c .before .before .before .loop in
     let a = c .before .before .before .before .before .args in
-    omega (arith, kinds-room (a .labels) (a .mask) (l .place) (omega (arith, c .before .before .loop-test .taken)) (sym (c .before .says-at .ensures) ∙ c .if1 .taken))
+    let t : l .place ≤ a .labels = omega (arith, c .before .before .loop-test .taken) in
+    omega (arith, kinds-room (a .labels) (a .mask) (l .place) t (sym (c .before .says-at .ensures) ∙ c .if1 .taken))
 
 loop-holds : tie.Need-loop-holds Inv-loop μ-loop
 loop-holds c = (omega arith, (refl, rw (kinds-none, pair-none) (omega arith, sym (put-nil _ _))))
@@ -57,7 +59,11 @@ add-put-record : tie.Need-add-put-record Inv-loop μ-loop
 add-put-record c = omega (arith, room (c .before .before .before))
 
 put-record-requires : tie.Need-put-record-requires Inv-loop μ-loop
-put-record-requires c κs = let r = room (c .before .before .before) in record { target = search needs; kind = search needs; next = omega arith; room = omega arith }
+put-record-requires c κs =
+    let r = room (c .before .before .before) in
+    let a = c .before .before .before .before .before .before .before .before .args in
+    let same : (u : ℕ) → Party (a .owner) ≡ Party u → a .owner ≡ u = λ u q. cc in
+    record { target = search needs; kind = search needs; next = omega arith; owner = λ u q. omega (arith, same u q); room = omega arith }
 
 add-next : tie.Need-add-next Inv-loop μ-loop
 add-next c = omega (arith, room (c .before .before .before .before .before .before))
@@ -83,9 +89,12 @@ loop-again c =
     let n = ap length m ∙ length-append ks (getD (kindBytes (a .labels)) (l .place) 0 ∷ []) in
     let f = kinds-most (a .labels) (a .mask) (l .place + 1) in
     let k = m ∙ ap (λ (k : ℕ). ks ++ (k ∷ [])) (sym (w .1 .ensures .0)) in
-    let p = pair-put (a .end) (a .out .now) (l .out) (a .base) (a .number) (a .target) (l .next) ks more (w .1 .result) (w .2 .result) (omega arith) (omega arith) (i .0) k (w .2 .ensures .0) (i .1) in
+    let p =
+    pair-put (a .end) (a .out .now) (l .out) (a .base) (a .number) (a .owner) (a .target) (l .next) ks more (w .1 .result) (w .2 .result)
+    (omega arith) (omega arith) (i .0) k (w .2 .ensures .0) (i .1) in
     let o = w .7 ∙ w .4 .ensures ∙ p in
-    let s = put-kept (a .out .now) (c .if1 .out) (a .base + 4 * (a .number - 1)) _ o (omega (arith, f, pair-length (a .end) (a .number) (a .target) more)) in
+    let g = pair-length (a .end) (a .number) (a .owner) (a .target) more in
+    let s = put-kept (a .out .now) (c .if1 .out) (a .base + 5 * (a .number - 1)) _ o (omega (arith, f, g)) in
     (omega arith, (s, (omega (arith, w .8, n), o))))
     (λ w.
     let m = kinds-same (a .labels) (a .mask) (l .place) t (sym e ∙ w .0 .left) in

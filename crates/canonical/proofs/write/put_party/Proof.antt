@@ -18,7 +18,7 @@ Inv-loop out₀ h u number end base row next₀ v₀ out next v =
     (v ≤ h .parties)
     × ((length out ≡ length out₀)
     × ((next ≡ number + length (rowTo (h .labels) row u v))
-    × (out ≡ put out₀ (base + 4 * (number - 1)) (chainBytes end number (rowTo (h .labels) row u v)))))
+    × (out ≡ put out₀ (base + 5 * (number - 1)) (chainBytes end number (rowTo (h .labels) row u v)))))
 
 abbrev μ-loop : tie.MeasureT-loop
 μ-loop out₀ h u number end base row next₀ v₀ out next v = h .parties - v
@@ -49,7 +49,14 @@ put-pair-requires c κs =
     let a = c .before .before .before .before .before .before .before .before .args in
     let n = row-step (a .h .labels) (getD (a .t3 .rows) (a .u) noRow) (a .u) (c .before .before .before .before .loop .v) in
     let r = row-room (a .h) (a .t3) (a .u) (c .before .before .before .before .loop .v) (omega arith) in
-    record { party = omega arith; few = omega arith; first = omega arith; kinds = omega (arith, n, r); last = omega arith; room = omega arith }
+    record {
+      parties = (omega arith, omega arith);
+      few = omega arith;
+      first = omega arith;
+      kinds = omega (arith, n, r);
+      last = omega arith;
+      room = omega arith;
+    }
 
 add-v : tie.Need-add-v Inv-loop μ-loop
 add-v c = search needs
@@ -68,10 +75,13 @@ loop-again c =
     let es = rowTo (a .h .labels) w (a .u) (l .v) in
     let more = rowTo (a .h .labels) w (a .u) (l .v + 1) in
     let m = row-more (a .h .labels) w (a .u) (l .v) in
-    let p = party-put (a .end) (a .out .now) (l .out) base (a .number) (a .u) (l .v) (l .next) es more (kindsIn (a .h .labels) (maskIn w (l .v))) (omega arith) (omega arith) (i .0) m (i .1) in
+    let ks = kindsIn (a .h .labels) (maskIn w (l .v)) in
+    let p =
+    party-put (a .end) (a .out .now) (l .out) base (a .number) (a .u) (l .v) (l .next) es more ks
+    (omega arith) (omega arith) (i .0) m (i .1) in
     let o = e .1 ∙ p in
     let r = row-room (a .h) (a .t3) (a .u) (l .v) (omega arith) in
-    let s = put-kept (a .out .now) _ (base + 4 * (a .number - 1)) _ o (omega (arith, r, chain-length (a .end) (a .number) more)) in
+    let s = put-kept (a .out .now) _ (base + 5 * (a .number - 1)) _ o (omega (arith, r, chain-length (a .end) (a .number) more)) in
     (omega arith, (s, (omega (arith, e .0, row-step (a .h .labels) w (a .u) (l .v)), o)))
 
 same-length : tie.Need-same-length Inv-loop μ-loop

@@ -4,7 +4,8 @@ use Prim.Native.Nat.{suc, _≤_}
 use native.Mathlib.Omega.{arith}
 use lib.ListN.{length}
 use Rattle.fields.specs.Writing.{put}
-use Rattle.canonical.specs.Canonical.{countOf, canonicalOf}
+use Rattle.house_layout.specs.Layout.{recordSize}
+use Rattle.canonical.specs.Canonical.{countOf, canonicalOf, writtenEdition}
 use Rattle.canonical.specs.Masks.{matterIn, numbersIn}
 use Rattle.canonical.specs.declared.reply.FileReply.the-variants.{Wrote}
 use Rattle.fields.proofs.PutLaws.{put-first}
@@ -16,8 +17,11 @@ use Rattle.canonical.proofs.write.write_matter.Tie as tie
 
 -- the number past the last record, and that it fits
 last : (c : tie.After-first-numbers)
-    → numbersIn (c .first-numbers .result) (c .before .before .args .h .parties) ≡ suc (countOf (matterIn (c .before .before .args .h) (c .before .before .args .kinds)))
-last c = past-last (matterIn (c .before .before .args .h) (c .before .before .args .kinds)) (c .first-numbers .result) (c .first-numbers .ensures)
+    → numbersIn (c .first-numbers .result) (c .before .before .args .h .parties)
+    ≡ suc (countOf (matterIn (c .before .before .args .h) (c .before .before .args .kinds)))
+last c =
+    let a = c .before .before .args in
+    past-last (matterIn (a .h) (a .kinds)) (c .first-numbers .result) (c .first-numbers .ensures)
 
 few : (c : tie.After-first-numbers) → countOf (matterIn (c .before .before .args .h) (c .before .before .args .kinds)) ≤ 9216
 few c = count-few (matterIn (c .before .before .args .h) (c .before .before .args .kinds)) (search needs) (search needs)
@@ -47,28 +51,43 @@ add-size-2 : tie.Need-add-size-2
 add-size-2 c = omega (arith, last (c .before), few (c .before))
 
 returns : tie.Need-returns
+unfolding recordSize
 returns c =
     λ M S.
     let a = c .before .before .before .before .args in
-    let n = stands-size M (a .h) (a .kinds) (c .before .before .first-numbers .result) S (c .before .before .first-numbers .ensures) in
-    rw (short-in M (length (a .out .now)) (omega (arith, c .if1 .taken))) (refl, refl)
+    let f = c .before .before .first-numbers in
+    let n = stands-size writtenEdition M (a .h) (a .kinds) (f .result) S (f .ensures) in
+    rw (short-in (canonicalOf writtenEdition M) (length (a .out .now)) (omega (arith, c .if1 .taken))) (refl, refl)
 
 put-file-requires : tie.Need-put-file-requires
 put-file-requires c κs =
     let F = c .before .before .before .first-numbers .ensures in
     let p = last (c .before .before .before) in
-    record { parties = search needs; labels = search needs; language = search needs; longest = search needs; records = omega arith; firsts = F; room = omega (arith, c .before .if1 .left) }
+    record {
+      edition = refl;
+      parties = search needs;
+      labels = search needs;
+      language = search needs;
+      longest = search needs;
+      records = omega arith;
+      firsts = F;
+      room = omega (arith, c .before .if1 .left);
+    }
 
 same-length : tie.Need-same-length
 same-length c = search needs
 
 returns-2 : tie.Need-returns-2
+unfolding recordSize
 returns-2 c =
     λ M S.
     let a = c .before .before .before .before .before .before .before .before .args in
-    let n = stands-size M (a .h) (a .kinds) (c .before .before .before .before .before .before .first-numbers .result) S (c .before .before .before .before .before .before .first-numbers .ensures) in
-    let e = fits-in M (length (a .out .now)) (omega (arith, c .before .before .before .before .if1 .left)) in
-    rw e (ap Wrote (sym n), c .before .before .put-file .ensures ∙ ap (put (a .out .now) 0) (stands-canonical M (a .h) (a .kinds) S) ∙ put-first (a .out .now) (canonicalOf M))
+    let f = c .before .before .before .before .before .before .first-numbers in
+    let n = stands-size writtenEdition M (a .h) (a .kinds) (f .result) S (f .ensures) in
+    let e = fits-in (canonicalOf writtenEdition M) (length (a .out .now)) (omega (arith, c .before .before .before .before .if1 .left)) in
+    let s = stands-canonical writtenEdition M (a .h) (a .kinds) S in
+    let o = c .before .before .put-file .ensures ∙ ap (put (a .out .now) 0) s ∙ put-first (a .out .now) (canonicalOf writtenEdition M) in
+    rw e (ap Wrote (sym n), o)
 
 pub write-matter-spec : {M : Type 1} → statement M
 write-matter-spec =

@@ -14,12 +14,15 @@ use Rattle.house_layout.specs.declared.header.Header.{Header}
 use Rattle.house_layout.specs.declared.reply.Check.the-variants.{Accepted}
 use Rattle.house_file.specs.Reading.{Marks}
 use Rattle.house_file.proofs.Clear.{clear}
-use Rattle.house_file.proofs.ChainLaws.{Here, judged, here-start, here-end, here-link, here-refused, here-next, tests, clearer, unlike}
+use Rattle.house_file.proofs.ChainLaws.{Here, judged, here-start, here-end}
+use Rattle.house_file.proofs.ChainLaws.{here-link, here-refused, here-next, tests, clearer, unlike}
 use Rattle.house_file.proofs.chain.read_chain.Statement.{statement}
 use Rattle.house_file.proofs.chain.read_chain.Tie as tie
 
 abbrev Inv-loop : tie.InvT-loop
-Inv-loop file h u marks₀ row₀ at₀ marks row at = (length marks ≡ 8928) × ((before : List ℕ) → Marks marks₀ before → Here file u before marks row at)
+Inv-loop file h u marks₀ row₀ at₀ marks row at =
+    (length marks ≡ 8928)
+    × ((before : List ℕ) → Marks marks₀ before → Here file u before marks row at)
 
 abbrev μ-loop : tie.MeasureT-loop
 μ-loop file h u marks₀ row₀ at₀ marks row at = clear marks (recordsOf file)
@@ -29,37 +32,60 @@ numbers : (c : tie.Start Inv-loop μ-loop) → c .args .h ≡ headerOf (c .args 
 numbers c = c .pre .0 .numbers
 
 -- a record number that passed the first tests
-in-file : (c : tie.Else1 Inv-loop μ-loop) → c .before .before .before .loop .at ≤ recordsOf (c .before .before .before .before .before .before .before .args .file .now)
-in-file c = omega (arith, ap (λ (h : Header). h .records) (numbers (c .before .before .before .before .before .before .before)), c .if1 .left)
+in-file : (c : tie.Else1 Inv-loop μ-loop) → c .before .before .before .loop .at
+    ≤ recordsOf (c .before .before .before .before .before .before .before .args .file .now)
+in-file c =
+    omega (arith, ap (λ (h : Header). h .records) (numbers (c .before .before .before .before .before .before .before)), c .if1 .left)
 
 long : (c : tie.Else1 Inv-loop μ-loop) → c .before .before .before .loop .at - 1 < 8928
-long c = omega (arith, in-file c, c .before .before .before .before .before .before .before .pre .0 .records, ap (λ (h : Header). h .records) (numbers (c .before .before .before .before .before .before .before)), c .before .before .loop-test .taken)
+long c =
+    let b = c .before .before .before .before .before .before .before in
+    omega (arith, in-file c, b .pre .0 .records, ap (λ (h : Header). h .records) (numbers b), c .before .before .loop-test .taken)
 
 -- the record's checks are those of the definition's turn
 checked : (c : tie.After-check-record Inv-loop μ-loop)
-    → c .check-record .result ≡ judged (c .before .before .before .before .before .before .before .before .before .before .args .file .now) (c .before .before .before .before .before .before .before .before .before .before .args .u) (c .before .before .before .before .before .before .loop .marks) (c .before .before .before .before .before .before .loop .row) (c .before .before .before .before .before .before .loop .at)
+    → let a = c .before .before .before .before .before .before .before .before .before .before .args in
+    let l = c .before .before .before .before .before .before .loop in
+    c .check-record .result ≡ judged (a .file .now) (a .u) (l .marks) (l .row) (l .at)
 unfolding judged
-checked c = c .check-record .ensures ∙ rw (c .before .before .read-record .ensures, numbers (c .before .before .before .before .before .before .before .before .before .before))
+checked c =
+    c .check-record .ensures
+    ∙ rw (
+      c .before .before .read-record .ensures,
+      numbers (c .before .before .before .before .before .before .before .before .before .before),
+    )
 
 accepted : (c : tie.After-enum-told Inv-loop μ-loop)
-    → judged (c .before .before .before .before .before .before .before .before .before .before .before .before .args .file .now) (c .before .before .before .before .before .before .before .before .before .before .before .before .args .u) (c .before .before .before .before .before .before .before .before .loop .marks) (c .before .before .before .before .before .before .before .before .loop .row) (c .before .before .before .before .before .before .before .before .loop .at) ≡ Accepted
+    → let a = c .before .before .before .before .before .before .before .before .before .before .before .before .args in
+    let l = c .before .before .before .before .before .before .before .before .loop in
+    judged (a .file .now) (a .u) (l .marks) (l .row) (l .at) ≡ Accepted
 accepted c = sym (checked (c .before .before)) ∙ c .enum-told .given .1
 
 -- what an accepted record's tests say of the record that was read
 few : (c : tie.Start Inv-loop μ-loop) → labelsOf (c .args .file .now) ≤ 8
 few c = omega (arith, ap (λ (h : Header). h .labels) (numbers c), c .pre .0 .labels)
 
-legal : (c : tie.After-enum-told Inv-loop μ-loop) → legalKind (labelsOf (c .before .before .before .before .before .before .before .before .before .before .before .before .args .file .now)) (c .before .before .before .before .read-record .result .kind) ≡ true
+legal : (c : tie.After-enum-told Inv-loop μ-loop)
+    → let f = c .before .before .before .before .before .before .before .before .before .before .before .before .args .file .now in
+    legalKind (labelsOf f) (c .before .before .before .before .read-record .result .kind) ≡ true
 legal c = rw (c .before .before .before .before .read-record .ensures) (tests _ _ _ _ _ (accepted c) .kind)
 
 below : (c : tie.After-enum-told Inv-loop μ-loop) → c .before .before .before .before .read-record .result .target < 32
 below c =
-    let t : recordOf (c .before .before .before .before .before .before .before .before .before .before .before .before .args .file .now) (c .before .before .before .before .before .before .before .before .loop .at) .target < partiesOf (c .before .before .before .before .before .before .before .before .before .before .before .before .args .file .now) = target-below _ _ _ (tests _ _ _ _ _ (accepted c) .target) in
-    rw (c .before .before .before .before .read-record .ensures) (omega (arith, ap (λ (h : Header). h .parties) (numbers (c .before .before .before .before .before .before .before .before .before .before .before .before)), c .before .before .before .before .before .before .before .before .before .before .before .before .pre .0 .parties))
+    let s = c .before .before .before .before .before .before .before .before .before .before .before .before in
+    let l = c .before .before .before .before .before .before .before .before .loop in
+    let t : recordOf (s .args .file .now) (l .at) .target < partiesOf (s .args .file .now) =
+    target-below _ _ _ (tests _ _ _ _ _ (accepted c) .target) in
+    rw (c .before .before .before .before .read-record .ensures)
+    (omega (arith, ap (λ (h : Header). h .parties) (numbers s), s .pre .0 .parties))
 
 fewer : (c : tie.After-enum-told Inv-loop μ-loop)
-    → clear (c .before .before .before .before .before .before .before .before .loop .marks) (recordsOf (c .before .before .before .before .before .before .before .before .before .before .before .before .args .file .now)) ≡ suc (clear (set (c .before .before .before .before .before .before .before .before .loop .marks) (c .before .before .before .before .before .before .before .before .loop .at - 1) 1) (recordsOf (c .before .before .before .before .before .before .before .before .before .before .before .before .args .file .now)))
-fewer c = clearer _ _ _ _ _ (accepted c) (c .before .before .before .before .before .before .before .loop-test .taken) (in-file (c .before .before .before .before .before)) (rw (c .before .before .before .before .before .before .before .before .loop .inv .0) (long (c .before .before .before .before .before)))
+    → let f = c .before .before .before .before .before .before .before .before .before .before .before .before .args .file .now in
+    let l = c .before .before .before .before .before .before .before .before .loop in
+    clear (l .marks) (recordsOf f) ≡ suc (clear (set (l .marks) (l .at - 1) 1) (recordsOf f))
+fewer c =
+    let b = c .before .before .before .before .before in
+    clearer _ _ _ _ _ (accepted c) (b .before .before .loop-test .taken) (in-file b) (rw (b .before .before .before .loop .inv .0) (long b))
 
 empty-row-requires : tie.Need-empty-row-requires Inv-loop μ-loop
 empty-row-requires c κs = search needs
@@ -71,10 +97,19 @@ add-u16-at : tie.Need-add-u16-at Inv-loop μ-loop
 add-u16-at c = search needs
 
 u16-at-requires : tie.Need-u16-at-requires Inv-loop μ-loop
-u16-at-requires c κs = omega (arith, ap (λ (h : Header). h .parties) (numbers (c .before .before)), c .before .before .pre .0 .size, c .before .before .pre .1 .0)
+u16-at-requires c κs =
+    omega (
+      arith,
+      ap (λ (h : Header). h .parties) (numbers (c .before .before)),
+      c .before .before .pre .0 .size,
+      c .before .before .pre .1 .0,
+    )
 
 loop-holds : tie.Need-loop-holds Inv-loop μ-loop
-loop-holds c = (c .before .before .before .pre .1 .1, λ before m. here-start _ _ before _ _ _ (c .u16-at .ensures .0) (c .before .empty-row .ensures) m)
+loop-holds c = (
+  c .before .before .before .pre .1 .1,
+  λ before m. here-start _ _ before _ _ _ (c .u16-at .ensures .0) (c .before .empty-row .ensures) m,
+)
 
 returns : tie.Need-returns Inv-loop μ-loop
 returns c =
@@ -87,7 +122,9 @@ returns c =
     )
 
 read-record-requires : tie.Need-read-record-requires Inv-loop μ-loop
-read-record-requires c κs = (ap (λ (h : Header). h .parties) (numbers (c .before .before .before .before .before .before .before)), (c .before .before .before .before .before .before .before .pre .0 .size, (omega (arith, c .before .before .loop-test .taken), in-file c)))
+read-record-requires c κs =
+    let b = c .before .before .before .before .before .before .before in
+    record { numbers = numbers b; size = b .pre .0 .size; first = omega (arith, c .before .before .loop-test .taken); last = in-file c }
 
 sub-check-record : tie.Need-sub-check-record Inv-loop μ-loop
 sub-check-record c = search needs
@@ -96,17 +133,22 @@ element-copy-out-check-record : tie.Need-element-copy-out-check-record Inv-loop 
 element-copy-out-check-record c = long (c .before)
 
 check-record-requires : tie.Need-check-record-requires Inv-loop μ-loop
-check-record-requires c κs = (c .before .before .before .before .before .before .before .before .before .pre .0 .parties, c .before .before .before .before .before .before .before .before .before .pre .0 .labels)
+check-record-requires c κs =
+    let p = c .before .before .before .before .before .before .before .before .before .pre .0 in
+    (p .parties, p .labels)
 
 enum-known-reply : tie.Need-enum-known-reply Inv-loop μ-loop
 enum-known-reply c = search needs
 
 returns-2 : tie.Need-returns-2 Inv-loop μ-loop
 returns-2 c =
-    let l = c .before .before .before .before .before .before .before .before .before .loop in (
+    let b = c .before .before .before .before .before .before in
+    let l = b .before .before .before .loop in (
       l .inv .0,
       λ before m.
-          let w = here-refused _ _ before _ _ _ (l .inv .1 before m) (c .before .before .before .before .before .before .before .before .loop-test .taken) (in-file (c .before .before .before .before .before .before)) _ (sym (checked (c .before .before .before)) ∙ c .before .reply .given .1) in
+          let w =
+          here-refused _ _ before _ _ _ (l .inv .1 before m) (b .before .before .loop-test .taken) (in-file b) _
+          (sym (checked (c .before .before .before)) ∙ c .before .reply .given .1) in
           record { reply = rw w; kept = λ p e. unlike w e },
     )
 
@@ -120,20 +162,27 @@ element-write-marks : tie.Need-element-write-marks Inv-loop μ-loop
 element-write-marks c = long (c .before .before .before .before .before)
 
 bit-of-requires : tie.Need-bit-of-requires Inv-loop μ-loop
-bit-of-requires c κs = kind-small _ (few (c .before .before .before .before .before .before .before .before .before .before .before .before)) _ (legal c)
+bit-of-requires c κs =
+    kind-small _ (few (c .before .before .before .before .before .before .before .before .before .before .before .before)) _ (legal c)
 
 add-requires : tie.Need-add-requires Inv-loop μ-loop
-add-requires c κs = (below (c .before), rw (c .bit-of .ensures) (bit-small _ (few (c .before .before .before .before .before .before .before .before .before .before .before .before .before)) _ (legal (c .before))))
+add-requires c κs =
+    let s = c .before .before .before .before .before .before .before .before .before .before .before .before .before in
+    (below (c .before), rw (c .bit-of .ensures) (bit-small _ (few s) _ (legal (c .before))))
 
 loop-less : tie.Need-loop-less Inv-loop μ-loop
 loop-less c = omega (arith, fewer (c .before .before))
 
 loop-again : tie.Need-loop-again Inv-loop μ-loop
 loop-again c =
-    let l = c .before .before .before .before .before .before .before .before .before .before .loop in
+    let b = c .before .before .before .before .before .before .before in
+    let l = b .before .before .before .loop in
     let x = c .before .before .before .before .before .before .read-record .ensures in (
       length-set (l .marks) _ _ ∙ l .inv .0,
-      λ before m. rw x (here-next _ _ before _ _ _ (l .inv .1 before m) (c .before .before .before .before .before .before .before .before .before .loop-test .taken) (in-file (c .before .before .before .before .before .before .before)) (accepted (c .before .before)) (rw (l .inv .0) (long (c .before .before .before .before .before .before .before))) (few (c .before .before .before .before .before .before .before .before .before .before .before .before .before .before)) (c .add .result)
+      λ before m.
+          rw x (here-next _ _ before _ _ _ (l .inv .1 before m) (b .before .before .loop-test .taken) (in-file b)
+          (accepted (c .before .before)) (rw (l .inv .0) (long b))
+          (few (b .before .before .before .before .before .before .before)) (c .add .result)
           (rw x at (rw (c .before .bit-of .ensures) at (c .add .ensures .0))) (rw x at (c .add .ensures .1))),
     )
 

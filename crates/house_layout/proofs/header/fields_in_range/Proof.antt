@@ -4,9 +4,6 @@ use borrow.Author.Needs.{needs}
 use Rattle.house_layout.proofs.header.fields_in_range.Statement.{statement}
 use Rattle.house_layout.proofs.header.fields_in_range.Tie as tie
 
-shared-slice-read-edition : tie.Need-shared-slice-read-edition
-shared-slice-read-edition c = search needs
-
 in-range-requires : tie.Need-in-range-requires
 in-range-requires c κs = search needs
 
@@ -19,23 +16,33 @@ in-range-requires-3 c κs = search needs
 in-range-requires-4 : tie.Need-in-range-requires-4
 in-range-requires-4 c κs = search needs
 
+in-range-requires-5 : tie.Need-in-range-requires-5
+in-range-requires-5 c κs = search needs
+
 shared-slice-read-zero : tie.Need-shared-slice-read-zero
 shared-slice-read-zero c = search needs
 
 returns : tie.Need-returns
 unfolding fieldsInRange
 returns c =
-    let b = c .before .before .before .before .before .before .before .before in
-    rw (c .before .before .before .before .before .in-range .ensures, c .before .before .before .before .in-range2 .ensures, c .before .before .before .in-range3 .ensures, c .before .before .in-range4 .ensures, b .pre .1)
+    let b = c .before .before in
+    rw (
+      b .before .before .before .before .in-range .ensures,
+      b .before .before .before .in-range2 .ensures,
+      b .before .before .in-range3 .ensures,
+      b .before .in-range4 .ensures,
+      b .in-range5 .ensures,
+      b .before .before .before .before .before .before .pre .1,
+    )
 
 pub fields-in-range-spec : {M : Type 1} → statement M
 fields-in-range-spec =
     tie.close
     (tie.spec
-    shared-slice-read-edition
     in-range-requires
     in-range-requires-2
     in-range-requires-3
     in-range-requires-4
+    in-range-requires-5
     shared-slice-read-zero
     returns)

@@ -27,6 +27,12 @@ shared-slice-read-wide-4 c = search needs
 wide-requires-4 : tie.Need-wide-requires-4
 wide-requires-4 c κs = search needs
 
+shared-slice-read-wide-5 : tie.Need-shared-slice-read-wide-5
+shared-slice-read-wide-5 c = search needs
+
+wide-requires-5 : tie.Need-wide-requires-5
+wide-requires-5 c κs = search needs
+
 u16-at-requires : tie.Need-u16-at-requires
 u16-at-requires c κs = search needs
 
@@ -45,5 +51,7 @@ read-header-spec =
     wide-requires-3
     shared-slice-read-wide-4
     wide-requires-4
+    shared-slice-read-wide-5
+    wide-requires-5
     u16-at-requires
     returns)

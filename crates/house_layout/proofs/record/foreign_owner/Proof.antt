@@ -1,0 +1,19 @@
+-- By the owner's cases.
+use borrow.Author.Needs.{needs}
+use Rattle.house_layout.proofs.record.foreign_owner.Statement.{statement}
+use Rattle.house_layout.proofs.record.foreign_owner.Tie as tie
+
+enum-told : tie.Need-enum-told
+enum-told c = search needs
+
+enum-known-owner : tie.Need-enum-known-owner
+enum-known-owner c = search needs
+
+returns : tie.Need-returns
+returns c = search needs
+
+returns-2 : tie.Need-returns-2
+returns-2 c = rw (c .before .owner .given .1)
+
+pub foreign-owner-spec : {M : Type 1} → statement M
+foreign-owner-spec = tie.close (tie.spec enum-told enum-known-owner returns returns-2)
