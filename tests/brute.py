@@ -1,4 +1,4 @@
-"""A slow and plain reckoning of document 01 and Tickets 1 and 2 of document 02, for small files.
+"""A slow and plain reckoning of document 01 and Tickets 1 to 3 of document 02, for small files.
 
 It is written from these alone and shares nothing with the product.
 Words are tuples of symbols, pairs are tuples of two parties, and a rule list
@@ -545,6 +545,35 @@ def permit_reply(known, u, v, listed):
     except BrokenList:
         return ("refused", 9)
     return ("yes",) if permits_by(terms, known.least_paths(u, v)) else ("no",)
+
+
+def call_compare(data, listed):
+    return compare_reply(Known(data), listed)
+
+
+def compare_reply(known, listed):
+    """The same for a file of which something is known."""
+    if known.refusal:
+        return ("refused", known.refusal)
+    try:
+        terms = known.decoded(listed)
+    except BrokenList:
+        return ("refused", 9)
+    found = differences(known, terms)
+    return ("differs", *found[0]) if found else ("same",)
+
+
+def differences(known, terms):
+    """The pairs that the file permits and the list doesn't, or the list and not the file: in pair order, as
+    (first party, second party, side), where the side is the one that permits the pair."""
+    found = []
+    for pair in pairs(known.house):
+        by_file, by_list = pair in known.house.permits, permits_by(terms, known.least_paths(*pair))
+        if by_file and not by_list:
+            found.append((*pair, "file"))
+        if by_list and not by_file:
+            found.append((*pair, "list"))
+    return found
 
 
 def write_reply(data, output):

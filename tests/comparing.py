@@ -16,8 +16,9 @@ LINES_SHOWN = 4
 BEGINNINGS = tuple(name + " " for name in script.NAMES.values())
 
 # What a run is made of: cases, each row of them with a limit of the stack or None; a text about
-# them that is printed; and the demands that they don't meet, as lines of text.
-Prepared = namedtuple("Prepared", "rows text lacking")
+# them that is printed; the demands that they don't meet, as lines of text; and a function that says
+# in lines of text what is wrong in the replies to all cases, taken together.
+Prepared = namedtuple("Prepared", "rows text lacking wrong", defaults=[lambda replies: []])
 
 
 class Tally:
@@ -60,23 +61,26 @@ def run_prepared(arguments, prepare):
         tally.fault("usage: %s PATH_OF_CASES_BINARY" % os.path.basename(arguments[0]))
         return tally.close()
     prepared = prepare()
+    replies = []
     for cases, stack in prepared.rows:
-        run(os.path.abspath(arguments[1]), cases, tally, stack)
+        replies += run(os.path.abspath(arguments[1]), cases, tally, stack)
     print(prepared.text)
-    for line in prepared.lacking:
+    for line in prepared.lacking + prepared.wrong(replies):
         tally.fault(line)
     return tally.close()
 
 
 def run(binary, cases, tally, stack=None):
-    """Run the binary on all cases, batch by batch. stack limits its stack, in bytes."""
+    """Run the binary on all cases, batch by batch. stack limits its stack, in bytes. Returns the replies."""
+    replies = []
     with tempfile.TemporaryDirectory() as folder:
         for number, start in enumerate(range(0, len(cases), FRAMES_IN_BATCH)):
             batch = cases[start:start + FRAMES_IN_BATCH]
             output, fault = run_batch(binary, folder, number, batch, stack)
             if fault is not None:
                 tally.fault("batch %d: %s" % (number, fault))
-            count(batch, output, tally)
+            replies += count(batch, output, tally)
+    return replies
 
 
 def run_batch(binary, folder, number, batch, stack):
@@ -107,7 +111,7 @@ def limiter(stack):
 
 
 def count(batch, output, tally):
-    """Compare the output with the batch's texts and count; show the first differences."""
+    """Compare the output with the batch's texts and count; show the first differences. Returns a reply for each."""
     differing, found, excess = compare([case.text for case in batch], output)
     tally.frames += len(batch)
     tally.passed += len(batch) - len(differing)
@@ -118,6 +122,7 @@ def count(batch, output, tally):
             tally.shown += 1
     if excess > 0:
         tally.fault("%d replies more than frames" % excess, excess)
+    return found
 
 
 def replies_of(output):
@@ -152,7 +157,7 @@ def show_difference(case, found):
             parts.first, parts.second, shortened(parts.given), len(parts.output) - 2 * script.GUARD))
     elif parts.call == script.WRITE:
         print("  output lent: %d" % (len(parts.output) - 2 * script.GUARD))
-    elif parts.call in (script.PERMIT, script.TEXT):
+    elif parts.call in script.LISTED:
         print("  pair: %d %d  list: %s" % (parts.first, parts.second, shortened(parts.given)))
     print("  file: %s" % shortened(parts.data))
     wanted_lines, found_lines = case.text.splitlines(), found.splitlines()

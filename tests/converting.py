@@ -16,8 +16,8 @@ import run_permit
 MOST_PATHS = (8, 20, 50, 120)     # about how many paths a pair may have
 MOST_PATHS_OF_DAMAGED = 100
 
-# kind says how the file was made.
-Made = namedtuple("Made", "kind data known")
+# kind says how the file was made. rules is the rule list whose pairs a file of the same graph permits, or None.
+Made = namedtuple("Made", "kind data known rules", defaults=[None])
 
 
 def drawn(rng, graphs, wide_graphs, damaged_files):
@@ -70,13 +70,14 @@ def of_matter(rng, matter):
     if matter.n == 1:
         return [Made("one party", data, known)]
     lister = run_permit.Lister(rng, known)
-    listed = lister.permitted_by(lister.own_terms())
+    rules = lister.own_terms()
+    listed = lister.permitted_by(rules)
     every = brute.pairs(known.house)
     sets = [("rules", listed), ("one pair changed", listed ^ {rng.choice(every)}),
             ("random permits", {pair for pair in every if rng.random() < rng.choice([0.1, 0.5, 0.9])})]
     if rng.random() < 0.05:
         sets.append(("no permits", set()))
-    return [with_permits(rng, matter, known, kind, permits) for kind, permits in sets]
+    return [with_permits(rng, matter, known, kind, permits)._replace(rules=rules) for kind, permits in sets]
 
 
 def with_permits(rng, matter, known, kind, permits):

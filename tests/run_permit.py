@@ -334,30 +334,42 @@ def add_mined(collection):
         collection.account["mined lists of several terms"] += mined[0] > 1
 
 
-def add_damaged(collection):
-    """Damaged files with any list and any pair."""
-    rng = collection.rng
+def refused_files(rng, how_many):
+    """Damaged files that are refused, each with what is known of it, a list that is right for every accepted
+    file and one that is right for none."""
     made = 0
-    while made < DAMAGED_FILES:
+    while made < how_many:
         data = run_paths.damaged_file(rng)
         known = brute.Known(data)
         if known.refusal:
             made += 1
             sound, broken = rng.choice([b"\0\0", b"\1\0\1\0\1\0"]), rng.choice([b"", b"\0", b"\1\0\0\0", b"\0\0\0"])
-            collection.add(data, known, sound, (0, 1))
-            collection.add(data, known, broken, rng.choice([(0, 0), (1, 1), (255, 0), (0, 32)]))
-            collection.add(data, known, rng.choice([sound, broken, rng.randbytes(9)]),
-                           (rng.randrange(5), rng.randrange(5)))
+            yield data, known, sound, broken
+
+
+def add_damaged(collection):
+    """Damaged files with any list and any pair."""
+    rng = collection.rng
+    for data, known, sound, broken in refused_files(rng, DAMAGED_FILES):
+        collection.add(data, known, sound, (0, 1))
+        collection.add(data, known, broken, rng.choice([(0, 0), (1, 1), (255, 0), (0, 32)]))
+        collection.add(data, known, rng.choice([sound, broken, rng.randbytes(9)]),
+                       (rng.randrange(5), rng.randrange(5)))
+
+
+def files_for_long_lists(rng, how_many):
+    """Files with pairs, each with what is known of it; in every fourth words have one symbol."""
+    for number in range(how_many):
+        matter = with_pairs(rng, MINED_PATHS)
+        if number % 4 == 0:
+            matter = matter._replace(longest=1)
+        yield known_file(rng, matter)
 
 
 def add_long(collection):
     """A few long lists, each with a pair for which it was made and with another."""
     rng = collection.rng
-    for number in range(LONG_FILES):
-        matter = with_pairs(rng, MINED_PATHS)
-        if number % 4 == 0:
-            matter = matter._replace(longest=1)
-        data, known = known_file(rng, matter)
+    for data, known in files_for_long_lists(rng, LONG_FILES):
         lister = Lister(rng, known)
         pair = lister.some_pair()
         for listed in lister.long_lists(pair):
@@ -438,6 +450,11 @@ def sizes(listed, terms):
     return found
 
 
+# What can be wrong in a list, as brute.py names it.
+FAULTS = ("bytes follow the last term", "cut short in a number", "a term of no words", "cut short before a word",
+          "a word of length 0", "a word longer than D", "cut short in a word", "a label too high",
+          "a kind not of the language")
+
 # The least number of times that each must occur.
 DEMANDS = {
     "permit: frames": 40000, "text: frames": 10000,
@@ -453,10 +470,7 @@ DEMANDS = {
     "files with all pairs": 300, "mined lists of several terms": 30,
     "text: texts": 3000, "text: refused 9": 1000, "text: file refused": 300,
 }
-DEMANDS.update({"permit: " + fault: 300 for fault in (
-    "bytes follow the last term", "cut short in a number", "a term of no words", "cut short before a word",
-    "a word of length 0", "a word longer than D", "cut short in a word", "a label too high",
-    "a kind not of the language")})
+DEMANDS.update({"permit: " + fault: 300 for fault in FAULTS})
 for name in ("permit", "text"):
     DEMANDS.update({"%s: refused %d" % (name, number): 20 for number in brute.FILE_REFUSALS})
     DEMANDS.update({"%s: the empty list" % name: 100, "%s: ten terms or more" % name: 200,
@@ -474,14 +488,21 @@ FEWEST_FILES = 3000
 FEWEST_LISTS = 20000
 
 
-def lacking(collection):
+def lacking(collection, demands=DEMANDS, fewest_files=FEWEST_FILES, fewest_lists=FEWEST_LISTS):
     """The demands that are not met, as lines of text."""
     lines = []
-    if len(collection.files) < FEWEST_FILES:
+    if len(collection.files) < fewest_files:
         lines.append("only %d different files" % len(collection.files))
-    if len(collection.lists) < FEWEST_LISTS:
+    if len(collection.lists) < fewest_lists:
         lines.append("only %d different lists" % len(collection.lists))
-    return lines + run_paths.unmet(collection.account, DEMANDS)
+    return lines + run_paths.unmet(collection.account, demands)
+
+
+def text_about(collection):
+    """How much there is, and how often each thing occurs."""
+    text = "%d different files, %d different lists, %d frames\n" % (
+        len(collection.files), len(collection.lists), len(collection.cases))
+    return text + run_paths.account_text(collection.account, "lists")
 
 
 # ------------------------------------------------------------------- the run
@@ -498,10 +519,7 @@ def collect():
 
 def prepare():
     collection = collect()
-    text = "%d different files, %d different lists, %d frames\n" % (
-        len(collection.files), len(collection.lists), len(collection.cases))
-    return comparing.Prepared([(collection.cases, None)],
-                              text + run_paths.account_text(collection.account, "lists"), lacking(collection))
+    return comparing.Prepared([(collection.cases, None)], text_about(collection), lacking(collection))
 
 
 if __name__ == "__main__":

@@ -227,8 +227,14 @@ def calls_on(rng, data, known):
     for terms in (lister.yes_terms(pair), lister.no_terms(pair)):
         lists.add(data, known, brute.encode_list(terms), pair, lister.some_pair())
     lists.add(data, known, lister.any_list(pair), pair, lister.wrong_pair())
-    checks = [script.frame(call, data) for call in (script.CHECK, script.DECODE)]
-    return [script.Case(frame, stored.reckoned(frame)) for frame in checks] + words.cases + lists.cases
+    others = [script.frame(call, data) for call in (script.CHECK, script.DECODE)]
+    others += [script.list_frame(script.COMPARE, data, listed) for listed in sorted(lists.lists | mined_lists(known))]
+    return [script.Case(frame, stored.reckoned(frame, known)) for frame in others] + words.cases + lists.cases
+
+
+def mined_lists(known):
+    """The mined list of an accepted file, where it is convertible."""
+    return {brute.encode_list(known.terms())} if known.verdict()[0] == "convertible" else set()
 
 
 def asked_again(case, data, known):
@@ -272,7 +278,7 @@ def answer_name(text):
     """A reply's call and answer; `found` stands for numbers or a text."""
     line = text.splitlines()[0]
     name, answer = line.split(" ")[:2]
-    return line if answer in ("accepted", "refused", "none", "yes", "no") else name + " found"
+    return line if answer in ("accepted", "refused", "none", "yes", "no", "same") else name + " found"
 
 
 def room_name(length, room):
@@ -375,10 +381,10 @@ for fewest, names in (
         (1000, ["changed: " + name for name in CHANGES]),
         (200, [name + answer for name in (OTHER_EDITION, UNLIKE) for answer in (
             "check accepted", "decode found", "path found", "path none",
-            "next-word found", "next-word none", "permit yes", "permit no")]),
-        (100, [name + "text found" for name in (OTHER_EDITION, UNLIKE)]),
+            "next-word found", "next-word none", "permit yes", "permit no", "compare found")]),
+        (100, [name + answer for name in (OTHER_EDITION, UNLIKE) for answer in ("text found", "compare same")]),
         (20, [name + "%s refused %d" % refused for name in (OTHER_EDITION, UNLIKE) for refused in (
-            *product(("path", "next-word"), (10, 11, 14)), ("permit", 9), ("permit", 10))]),
+            *product(("path", "next-word"), (10, 11, 14)), ("permit", 9), ("permit", 10), ("compare", 9))]),
         (20, [name + "files in language %d" % language for name in (OTHER_EDITION, UNLIKE) for language in range(4)])):
     DEMANDS.update(dict.fromkeys(names, fewest))
 

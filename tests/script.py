@@ -12,8 +12,9 @@ and no parties. For these three calls 16 guard bytes stand before the output's
 old bytes and 16 after them; they aren't counted in the output's length and
 aren't lent. The reply's second line has all of these bytes after the call.
 
-For permit and text the given bytes are a rule list; nothing is lent. Text has
-no parties; its reply shows the bytes of the list's text in hexadecimal.
+For permit, text and compare the given bytes are a rule list; nothing is lent.
+Text and compare have no parties. Text's reply shows the bytes of the list's text
+in hexadecimal; compare's is `same`, or a pair and the side that permits it.
 """
 
 import struct
@@ -34,14 +35,16 @@ PATH = "p"
 NEXT_WORD = "n"
 PERMIT = "r"
 TEXT = "x"
+COMPARE = "m"
 WRITE = "w"
 
 # Each reply begins with a line that begins with one of these.
 NAMES = {CHECK: "check", DECODE: "decode", PATH: "path", NEXT_WORD: "next-word",
-         PERMIT: "permit", TEXT: "text", WRITE: "write"}
+         PERMIT: "permit", TEXT: "text", COMPARE: "compare", WRITE: "write"}
 
-# The calls whose output has guards.
+# The calls whose output has guards, and those that are given a rule list.
 GUARDED = (PATH, NEXT_WORD, WRITE)
+LISTED = (PERMIT, TEXT, COMPARE)
 
 # A frame's bytes, and the lines that are its reply.
 Case = namedtuple("Case", "frame text")
@@ -76,7 +79,9 @@ def write_frame(data, output):
 
 
 def list_frame(call, data, listed, first=0, second=0):
-    """The frame of a permit or text call."""
+    """The frame of a permit, text or compare call; only permit has parties."""
+    if call not in LISTED or call != PERMIT and (first, second) != (0, 0):
+        raise ValueError("not a frame of permit, text or compare")
     if len(listed) > LONGEST_LIST:
         raise ValueError("rule list too long for a frame")
     return frame(call, data, first, second, listed)
@@ -191,3 +196,10 @@ def list_text(reply):
     if reply[0] == "refused":
         return "text refused %d\n" % reply[1]
     return "text %s\n" % reply[1].encode("ascii").hex().upper()
+
+
+def compare_text(reply):
+    """The line of compare for this reply."""
+    if reply[0] == "refused":
+        return "compare refused %d\n" % reply[1]
+    return "compare %d %d %s\n" % reply[1:] if reply[0] == "differs" else "compare same\n"

@@ -406,6 +406,9 @@ A_EDITION_2 = "02 03 01 00 02 00 03 00  01 00 03 00 00 00  01 00 02 00 00  02 FF
 A_WRONG_OWNER = "02 03 01 00 02 00 03 00  01 00 03 00 00 00  01 00 02 00 00  02 FF 00 00 00  02 00 00 00 00"
 A_ALL_KINDS = "01 03 01 03 02 00 03 00  01 00 03 00 00 00  01 00 02 00  02 FF 00 00  02 00 00 00"
 A_HEAD_1_ZERO = "01 03 01 00 02 00 03 00  01 00 00 00 00 00  01 00 02 00  02 FF 00 00  02 00 00 00"
+B = "01 03 01 00 02 00 03 00  01 00 03 00 00 00  01 00 02 00  01 FF 00 00  02 00 00 00"
+C = "01 03 01 00 02 00 03 00  01 00 02 00 03 00  01 00 00 00  02 00 00 00  00 FF 00 00"
+ONE_PARTY = "01 01 01 00 01 00 00 00  00 00"
 
 # Each row: the call, the file, the pair, the given word, the output's length, the
 # expected answer, the bytes that the output then begins with. The rest is kept.
@@ -474,6 +477,36 @@ LIST_ROWS = [
     ("x", A_EDITION_2, (0, 0), "01 00  01 00  02 00 00", "text 30 30 2E 30 30 0A"),
     ("x", A_HEAD_1_ZERO, (0, 0), "01 00  00 00", "refused 5"),
     ("x", A_WRONG_OWNER, (0, 0), "01 00  00 00", "refused 15"),
+    ("m", A, (0, 0), "01 00  01 00  02 00 00", "compare same"),
+    ("m", A, (0, 0), "00 00", "compare 0 2 file"),
+    ("m", A, (0, 0), "01 00  01 00  01 00", "compare 0 1 list"),
+    ("m", A, (0, 0), "02 00  01 00  02 00 00  01 00  01 00", "compare 0 1 list"),
+    ("m", A, (0, 0), "02 00  01 00  01 00  01 00  02 00 00", "compare 0 1 list"),
+    ("m", A, (0, 0), "02 00  01 00  02 00 00  01 00  02 00 00", "compare same"),
+    ("m", A, (0, 0), "01 00  02 00  02 00 00  02 00 00", "compare same"),
+    ("m", A, (0, 0), "01 00  02 00  02 00 00  01 00", "compare 0 2 file"),
+    ("m", A, (0, 0), "01 00", "refused 9"),
+    ("m", A, (0, 0), "", "refused 9"),
+    ("m", A, (0, 0), "02 00  01 00  02 00 00  00 00", "refused 9"),
+    ("m", A, (0, 0), "02 00  01 00  01 00  00 00", "refused 9"),
+    ("m", A, (0, 0), "01 00  01 00  02 00 00  00", "refused 9"),
+    ("m", A, (0, 0), "01 00  01 00  03 00 00 00", "refused 9"),
+    ("m", A, (0, 0), "01 00  01 00  01 02", "refused 9"),
+    ("m", A, (0, 0), "01 00  01 00  01 04", "refused 9"),
+    ("m", A_ALL_KINDS, (0, 0), "01 00  01 00  01 02", "compare 0 2 file"),
+    ("m", A_EDITION_2, (0, 0), "01 00  01 00  02 00 00", "compare same"),
+    ("m", A_EDITION_2, (0, 0), "01 00  01 00  01 00", "compare 0 1 list"),
+    ("m", A_HEAD_1_ZERO, (0, 0), "01 00  01 00  02 00 00", "refused 5"),
+    ("m", A_HEAD_1_ZERO, (0, 0), "01 00", "refused 5"),
+    ("m", A_WRONG_OWNER, (0, 0), "01 00", "refused 15"),
+    ("m", B, (0, 0), "00 00", "compare 0 1 file"),
+    ("m", B, (0, 0), "01 00  01 00  02 00 00", "compare 0 1 file"),
+    ("m", B, (0, 0), "01 00  01 00  01 00", "compare 1 2 list"),
+    ("m", C, (0, 0), "00 00", "compare 2 0 file"),
+    ("m", C, (0, 0), "01 00  01 00  02 00 00", "compare 0 2 list"),
+    ("m", ONE_PARTY, (0, 0), "00 00", "compare same"),
+    ("m", ONE_PARTY, (0, 0), "01 00  01 00  01 00", "compare same"),
+    ("m", ONE_PARTY, (0, 0), "01 00", "refused 9"),
 ]
 
 # Each row of write: what it shows, the file, the output's length, the expected answer,
@@ -597,6 +630,8 @@ def reckoned(frame, known=None):
         return script.permit_text(brute.permit_reply(known, parts.first, parts.second, parts.given))
     if parts.call == script.TEXT:
         return script.list_text(brute.text_reply(known, parts.given))
+    if parts.call == script.COMPARE:
+        return script.compare_text(brute.compare_reply(known, parts.given))
     return script.expected(parts.call, parts.data)
 
 

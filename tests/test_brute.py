@@ -1,4 +1,4 @@
-"""Tests of the test side itself: brute.py is held to the text of document 01 and of Tickets 1 and 2.
+"""Tests of the test side itself: brute.py is held to the text of document 01 and of Tickets 1 to 3.
 
     python3 -m unittest discover -s tests        (or: python3 tests/test_brute.py)
 """
@@ -17,6 +17,7 @@ import comparing
 import files
 import large
 import run_cases
+import run_compare
 import run_paths
 import run_permit
 import run_write
@@ -805,9 +806,13 @@ def mine_by_calls(data, matter):
                 term.append(next(w for w in first_words(data, pair)
                                  if not has_word(data, other, w)))
         terms.append(term)
+    return bytes_of_list(terms)
+
+
+def bytes_of_list(terms):
     out = struct.pack("<H", len(terms))
     for term in terms:
-        out += struct.pack("<H", len(term)) + b"".join(bytes([len(w)]) + w for w in term)
+        out += struct.pack("<H", len(term)) + b"".join(bytes([len(w), *w]) for w in term)
     return out
 
 
@@ -932,6 +937,32 @@ class SecondReckonings(unittest.TestCase):
             data = files.lay_out(matter, rng).bytes()
             reply, _, output = brute.call_mining(data, bytes(1024), bytes(3000))
             self.assertEqual(output[:reply[1]], mine_by_calls(data, matter))
+
+    def test_compare(self):
+        rng = random.Random(18)
+        replies = {"same": 0, "file": 0, "list": 0}
+        for number in range(400):
+            matter = convertible_matter(rng) if number % 2 else small_matter(rng)
+            data = files.lay_out(matter, rng).bytes()
+            table = {pair: set(words_by_permutations(matter, *pair)) for pair in itertools.permutations(range(matter.n), 2)}
+            every = sorted(set().union(*table.values()))
+            for _ in range(4 if every else 0):
+                terms = [rng.choices(every, k=rng.randint(1, 2)) for _ in range(rng.randint(0, 3))]
+                reply = brute.call_compare(data, bytes_of_list(terms))
+                self.assertEqual(reply, self.compare_by_sets(matter, table, terms))
+                replies[reply[-1]] += 1
+            if brute.call_verdict(data)[0] == "convertible":
+                listed = brute.call_mining(data, bytes(1024), bytes(3000))
+                self.assertEqual(brute.call_compare(data, listed[2][:listed[0][1]]), ("same",))
+        for reply, times in replies.items():
+            self.assertGreater(times, 50, reply)
+
+    def compare_by_sets(self, matter, table, terms):
+        """The least of the pairs that are in one of two sets alone."""
+        listed = {pair for pair in table if any(set(term) <= table[pair] for term in terms)}
+        for pair in sorted(matter.permits ^ listed):
+            return ("differs", *pair, "list" if pair in listed else "file")
+        return ("same",)
 
     def test_copies(self):
         rng = random.Random(17)
@@ -1402,7 +1433,7 @@ class Running(unittest.TestCase):
             comparing.run("/nowhere/at/all", [script.Case(script.frame("c", b""), "check refused 1\n")], tally)
             self.assertEqual(tally.close(), 1)
 
-    def run_prepared(self, arguments, lacking):
+    def run_prepared(self, arguments, lacking, *wrong):
         """The exit status and the last line of a run of one case that passes."""
         cases = [script.Case(script.frame("p", b""), "path 2\noutput 00\n")]
         shown = io.StringIO()
@@ -1410,7 +1441,7 @@ class Running(unittest.TestCase):
             program = os.path.join(folder, "program")
             self.write_program(program, self.printing(cases[0].text))
             status = comparing.run_prepared(["run.py"] + [program] * arguments, lambda: comparing.Prepared(
-                [(cases, None), (cases, run_paths.STACK)], "a text", lacking))
+                [(cases, None), (cases, run_paths.STACK)], "a text", lacking, *wrong))
         return status, shown.getvalue().splitlines()
 
     def test_a_demand_that_is_not_met_fails(self):
@@ -1420,6 +1451,12 @@ class Running(unittest.TestCase):
             self.assertEqual(self.run_prepared(arguments, []),
                              (1, ["usage: run.py PATH_OF_CASES_BINARY", "0 passed, 1 failed"]))
 
+    def test_what_is_wrong_in_all_replies_fails(self):
+        replies = 2 * ["path 2\noutput 00\n"]
+        for found, lines in ((replies, []), (replies[:1], ["other replies"])):
+            status = self.run_prepared(1, [], lambda given: ["other replies"] if given != found else [])
+            self.assertEqual(status, (len(lines), ["a text", *lines, "2 passed, %d failed" % len(lines)]))
+
     def test_every_demand_is_missed_by_nothing(self):
         lines = run_paths.lacking(run_paths.Collection(random.Random(1)), [])
         self.assertEqual(len(lines), len(run_paths.DEMANDS) + 2)
@@ -1427,6 +1464,8 @@ class Running(unittest.TestCase):
         self.assertEqual(len(lines), len(run_permit.DEMANDS) + 2)
         lines = run_write.lacking(run_write.Collection(random.Random(1)))
         self.assertEqual(len(lines), len(run_write.DEMANDS))
+        lines = run_compare.lacking(run_compare.Collection(random.Random(1)))
+        self.assertEqual(len(lines), len(run_compare.DEMANDS) + 2)
         account = run_cases.Account()
         self.assertEqual(len(account.lacking()), 1 + len(brute.FILE_REFUSALS) + 4 + len(account.limits) + len(run_cases.DEMANDS))
 

@@ -182,6 +182,8 @@ ANSWERS = [
     ("permit yes\n", "permit yes"), ("permit no\n", "permit no"),
     ("permit refused 9\n", "permit refused 9"), ("permit refused 10\n", "permit refused 10"),
     ("text 30300A\n", "text found"), ("text \n", "text found"), ("text refused 9\n", "text refused 9"),
+    ("compare same\n", "compare same"), ("compare 0 2 file\n", "compare found"), ("compare 0 1 list\n", "compare found"),
+    ("compare refused 9\n", "compare refused 9"),
 ]
 
 
@@ -300,7 +302,8 @@ class AskedAgain(unittest.TestCase):
         return [script.frame("c", data), script.frame("d", data),
                 script.word_frame("p", data, 0, 2, script.given_bytes(2, bytes(31)), self.LENT),
                 script.word_frame("n", data, 0, 2, script.given_bytes(0, bytes(31)), self.LENT),
-                script.list_frame("r", data, self.LIST, 0, 2), script.list_frame("x", data, self.LIST)]
+                script.list_frame("r", data, self.LIST, 0, 2), script.list_frame("x", data, self.LIST),
+                script.list_frame("m", data, self.LIST), script.list_frame("m", data, b"\0\0")]
 
     # What A's file has for these frames.
     TEXTS = [
@@ -308,9 +311,10 @@ class AskedAgain(unittest.TestCase):
         "decode 3 1 0 2\npermits 00000004" + 31 * " 00000000" + "\nrelation 0 1 01\nrelation 1 2 01\n",
         "path 3\noutput " + 16 * "DD" + "000102" + 28 * "EE" + 16 * "DD" + "\n",
         "next-word 2\noutput " + 16 * "DD" + "0000" + 29 * "EE" + 16 * "DD" + "\n",
-        "permit yes\n", "text 30302E30300A\n",
+        "permit yes\n", "text 30302E30300A\n", "compare same\n", "compare 0 2 file\n",
     ]
-    NAMES = ["check accepted", "decode found", "path found", "next-word found", "permit yes", "text found"]
+    NAMES = ["check accepted", "decode found", "path found", "next-word found", "permit yes", "text found",
+             "compare same", "compare found"]
 
     def cases(self, data):
         return [script.Case(frame, text) for frame, text in zip(self.frames(data), self.TEXTS)]
@@ -336,8 +340,8 @@ class AskedAgain(unittest.TestCase):
     def test_another_answer_is_a_fault(self):
         # B's permit is another one; without the relation (1,2) there is no path and no word either.
         without = bytes.fromhex("02 03 01 00 02 00 02 00  01 00 00 00 00 00  01 00 02 00 00  02 FF 00 00 00")
-        for other, names in ((stored.case_file("B"), ["decode found"]),
-                             (without, ["decode found", "path found", "next-word found", "permit yes"]),
+        for other, names in ((stored.case_file("B"), ["decode found", "compare same", "compare found"]),
+                             (without, ["decode found", "path found", "next-word found", "permit yes", "compare same"]),
                              (stored.case_file("A in edition 2 with record 1's owner 01"), self.NAMES)):
             self.assertEqual(self.again(A_TURNED, other).faults,
                              ["another answer for " + run_write.UNLIKE + name for name in names])
@@ -357,7 +361,7 @@ class AskedAgain(unittest.TestCase):
         self.assertEqual(made.faults, [])
         frames = [script.parts_of(case.frame) for case in made.cases]
         sorts = [(parts.data[0], brute.canonical(brute.decode(parts.data)) == parts.data) for parts in frames]
-        for call, times in (("c", 4), ("d", 4), ("p", 20), ("n", 20), ("r", 24)):
+        for call, times in (("c", 4), ("d", 4), ("p", 20), ("n", 20), ("r", 24), ("m", 12)):
             for sort in ((1, False), (2, False), (2, True)):
                 asked = [parts for parts, one in zip(frames, sorts) if parts.call == call and one == sort]
                 self.assertGreaterEqual(len(asked), times, (call, sort))

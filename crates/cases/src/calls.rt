@@ -16,7 +16,7 @@ use search::Word;
 
 // Whether a call has more than a file: a word and an output, an output, or a rule list.
 pub fn has_more(call: u8) -> bool {
-    call == b'p' || call == b'n' || call == b'w' || call == b'r' || call == b'x'
+    call == b'p' || call == b'n' || call == b'w' || call == b'r' || call == b'm' || call == b'x'
 }
 
 // The word of a frame: its length, then 31 symbols.

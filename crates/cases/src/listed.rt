@@ -1,4 +1,4 @@
-// The calls that are given a rule list: permit, and its text.
+// The calls that are given a rule list: permit, compare, and the list's text.
 ghost use Rattle.rebac.specs.Matter.{Matter};
 ghost use Rattle.graph.specs.Archive.{Shows};
 use crate::fill;
@@ -7,9 +7,12 @@ use crate::print::hex_bytes;
 use crate::print::line;
 use crate::print::text;
 use crate::refused;
+use crate::show_number;
+use comparison::CompareReply;
 use graph::Archive;
 use house_layout::Check;
 use house_layout::Refusal;
+use mining::Pair;
 use rules::PermitReply;
 
 fn show_permit(f: Frame, file: &[u8], list: &[u8]) {
@@ -25,6 +28,25 @@ fn show_permit(f: Frame, file: &[u8], list: &[u8]) {
         PermitReply::No => {
             text(b" no\n");
         }
+    }
+}
+
+fn show_difference(p: Pair, side: &[u8]) {
+    show_number(p.first);
+    show_number(p.second);
+    text(side);
+}
+
+fn show_compare(file: &[u8], list: &[u8]) {
+    text(b"compare");
+    let reply = comparison::compare(file, list);
+    match reply {
+        CompareReply::Refused(e) => refused(e),
+        CompareReply::Same => {
+            text(b" same\n");
+        }
+        CompareReply::OnlyFile(p) => show_difference(p, b" file\n"),
+        CompareReply::OnlyList(p) => show_difference(p, b" list\n"),
     }
 }
 
@@ -62,15 +84,22 @@ fn show_text(file: &[u8], list: &[u8]) {
     }
 }
 
+// Runs the call of a frame with its list.
+fn show(f: Frame, file: &[u8], list: &[u8]) {
+    if f.call == b'r' {
+        show_permit(f, file, list);
+    } else if f.call == b'm' {
+        show_compare(file, list);
+    } else {
+        show_text(file, list);
+    }
+}
+
 // Reads the list of a frame and runs its call; false where the script is too short.
 pub fn run_list(f: Frame, file: &[u8], space: &mut [u8]) -> bool {
     let n = f.given;
     if fill(space, n) {
-        if f.call == b'r' {
-            show_permit(f, file, &space[..n]);
-        } else {
-            show_text(file, &space[..n]);
-        }
+        show(f, file, &space[..n]);
         return true;
     }
     false

@@ -38,7 +38,8 @@ fn show_check(file: &[u8]) {
     }
 }
 
-fn show_number(x: usize) {
+// A space and the number.
+pub fn show_number(x: usize) {
     text(b" ");
     decimal(x as u64);
 }

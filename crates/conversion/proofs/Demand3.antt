@@ -1,4 +1,5 @@
--- Demand 3 of the verdict, mining, permit and path calls: the existence theorem of rebac, carried to the replies of the calls by the definitions that their contracts cite.
+-- Demand 3 of the verdict, mining, permit and path calls: the existence theorem of rebac,
+-- carried to the replies of the calls by the definitions that their contracts cite.
 use mathlib.Core.Path.{_≡_, refl, sym, ap, _∙_, subst}
 use mathlib.Core.Logic.{_⊎_, inl, inr, ⊎-elim}
 use mathlib.Core.Bool.{true, false, not, _&&_}
@@ -18,7 +19,8 @@ use Rattle.rebac.specs.Words.{Word, lexLess}
 use Rattle.rebac.specs.Paths.{has, leastPath}
 use Rattle.rebac.specs.Symbols.{enlarged}
 use Rattle.rebac.specs.Verdict.{convertible, noWord, rivalled, isConvertible, judge, rival, covers, spoils}
-use Rattle.rebac.specs.Existence.{problemOf, problemOver, verdictOf, minedList, plainTerm, plainList, permitsPair, ConvertsAny, Converts, MatterWord, HasWord, score}
+use Rattle.rebac.specs.Existence.{problemOf, problemOver, verdictOf, minedList, plainTerm, plainList, permitsPair}
+use Rattle.rebac.specs.Existence.{ConvertsAny, Converts, MatterWord, HasWord, score}
 use Rattle.rebac.specs.NextWord.{pairWords}
 use Rattle.rebac.proofs.SymbolsLaws.{alphabet-below}
 use Rattle.rebac.proofs.AnyList.{any-list-verdict}
@@ -26,7 +28,8 @@ use Rattle.rebac.proofs.PairsLaws.{pairs-in, pairs-out, pairs-ascending}
 use Rattle.rebac.proofs.Reach.{has-in, has-out, least-is-path, least-is-least, least-none}
 use Rattle.rebac.proofs.SearchLaws.{least-size}
 use Rattle.rebac.proofs.VerdictLaws.{judge-word, judge-no-rival, NoWord, Rivalled, is-convertible}
-use Rattle.rebac.proofs.Conversion.{score-has, score-one, word-in, word-out, mined-words, mined-terms-few, mined-items-few, no-word-verdict, rival-verdict, convertible-iff, mined-converts}
+use Rattle.rebac.proofs.Conversion.{score-has, score-one, word-in, word-out, mined-words, mined-terms-few, mined-items-few}
+use Rattle.rebac.proofs.Conversion.{no-word-verdict, rival-verdict, convertible-iff, mined-converts}
 use Rattle.house_file.specs.Check.{checkOf}
 use Rattle.house_layout.specs.declared.reply.Check.the-variants.{Accepted, Refused}
 use Rattle.house_layout.specs.declared.reply.Refusal.{Refusal}
@@ -45,7 +48,8 @@ use Rattle.rules.specs.Permit.{permitReply, yesOrNo}
 use Rattle.rules.proofs.MatterLists.{permit-of-mined}
 use Rattle.mining.specs.declared.build.Pair.{Pair as PairValue}
 use Rattle.conversion.specs.declared.verdict.VerdictReply.the-variants as reply
-use Rattle.conversion.specs.Calls.{listOf, bytesOf, replyOf, verdictIn, verdictCall, oneIf, tableOf, miningIn, miningCall, tooShort, writes as writesList}
+use Rattle.conversion.specs.Calls.{listOf, bytesOf, replyOf, verdictIn, verdictCall, oneIf, tableOf}
+use Rattle.conversion.specs.Calls.{miningIn, miningCall, tooShort, writes as writesList}
 use Rattle.conversion.specs.declared.mine.MiningReply.the-variants.{Wrote}
 use Rattle.conversion.proofs.SizeLaws.{term-bound, list-bound}
 use Rattle.conversion.proofs.ReplyLaws.{reply-convertible, reply-no-word, reply-rival, reply-refused}
@@ -55,9 +59,6 @@ use Rattle.conversion.specs.Demands.{pairIn, Wordless, IsRival, Hinders,
 
 -- a matter's words and rivals, from the statements to the tests
 module _ (M : Matter) where
-  listed : (p : Pair) → IsPair (M .parties) p → List·Memᴰ p (pairsOf (M .parties))
-  listed p h = pairs-in (M .parties) (p .first) (p .second) (h .first) (h .second) (h .different)
-
   rival-in : (p q : Pair) → IsRival M p q → rival (problemOf M) p q ≡ true
   unfolding rival covers problemOf problemOver pairWords
   rival-in p q r =
@@ -69,7 +70,8 @@ module _ (M : Matter) where
       let b : has (enlarged M) q w ≡ true = has-in (enlarged M) q w (k .1 .0) (k .1 .1) in
       rw (score-one M refl p w, score-one M refl q w, a, b)))
 
-  rival-out : (p q : Pair) → ((w : Word) × List·Memᴰ w (pairWords M p)) → List·Memᴰ q (pairsOf (M .parties)) → rival (problemOf M) p q ≡ true → IsRival M p q
+  rival-out : (p q : Pair) → ((w : Word) × List·Memᴰ w (pairWords M p)) → List·Memᴰ q (pairsOf (M .parties))
+      → rival (problemOf M) p q ≡ true → IsRival M p q
   unfolding rival covers problemOf problemOver pairWords
   rival-out p q w m e =
       let u : not (permitted M q) ≡ true = and-left (not (permitted M q)) _ e in
@@ -80,7 +82,8 @@ module _ (M : Matter) where
         all = λ v h.
             let a : has (enlarged M) p v ≡ true = has-in (enlarged M) p v (h .1 .0) (h .1 .1) in
             let b : 1 ≤ score M p v = leb-true 1 (score M p v) (score-has M p v ∙ a) in
-            let c : score M p v ≤ score M q v = leb-true _ _ (all-in _ (pairWords M p) (and-right (not (permitted M q)) _ e) (word-in M p v h)) in
+            let c : score M p v ≤ score M q v =
+            leb-true _ _ (all-in _ (pairWords M p) (and-right (not (permitted M q)) _ e) (word-in M p v h)) in
             (h .0, has-out (enlarged M) q v (h .0 .some) (sym (score-has M q v) ∙ le-leb 1 (score M q v) (omega arith)));
       }
 
@@ -93,7 +96,8 @@ module _ (M : Matter) where
       let w : (w : Word) × List·Memᴰ w (pairWords M p) = judge-word (problemOf M) p j in
       ⊎-elim
       (λ (n : Wordless M p). absurd (n (w .0) (word-out M p (w .0) (w .1))))
-      (λ (r : (q : Pair) × IsRival M p q). both (rival-in p (r .0) (r .1)) (judge-no-rival (problemOf M) p j (r .0) (listed (r .0) (r .1 .isPair))))
+      (λ (r : (q : Pair) × IsRival M p q).
+      both (rival-in p (r .0) (r .1)) (judge-no-rival (problemOf M) p j (r .0) (pairs-in (M .parties) (r .0) (r .1 .isPair))))
       (h .why))
       (λ c. rw (h .permit, c))
 
@@ -102,14 +106,15 @@ module _ (M : Matter) where
   first-hinders p r h = record {
     isPair = pairs-out (M .parties) (first-in r);
     here = h;
-    first = λ x k g. first-before pairBefore r (pairs-ascending (M .parties)) x (listed x k) (hinders-in x g);
+    first = λ x k g. first-before pairBefore r (pairs-ascending (M .parties)) x (pairs-in (M .parties) x k) (hinders-in x g);
   }
 
-  first-rival : (p q : Pair) → ((w : Word) × List·Memᴰ w (pairWords M p)) → First (rival (problemOf M) p) (pairsOf (M .parties)) q → FirstPair M (IsRival M p) q
+  first-rival : (p q : Pair) → ((w : Word) × List·Memᴰ w (pairWords M p)) → First (rival (problemOf M) p) (pairsOf (M .parties)) q
+      → FirstPair M (IsRival M p) q
   first-rival p q w r = record {
     isPair = pairs-out (M .parties) (first-in r);
     here = rival-out p q w (first-in r) (r .here);
-    first = λ x k g. first-before pairBefore r (pairs-ascending (M .parties)) x (listed x k) (rival-in p x g);
+    first = λ x k g. first-before pairBefore r (pairs-ascending (M .parties)) x (pairs-in (M .parties) x k) (rival-in p x g);
   }
 
   -- the verdicts of a matter
@@ -132,21 +137,28 @@ table-length : (M : Matter) → length (tableOf M) ≡ 1024
 unfolding tableOf range
 table-length M = length-map _ (upFrom 0 1024) ∙ up-length 0 1024
 
-table-at : (M : Matter) (a b : ℕ) → a < 32 → b < 32 → getD (tableOf M) (32 * a + b) 0 ≡ oneIf (isPair (M .parties) a b && permitsPair M (listOf M) (pair a b))
+table-at : (M : Matter) (a b : ℕ) → a < 32 → b < 32
+    → getD (tableOf M) (32 * a + b) 0 ≡ oneIf (isPair (M .parties) a b && permitsPair M (listOf M) (pair a b))
 unfolding tableOf range
 table-at M a b p q =
     let g : ℕ → ℕ = λ k. oneIf (isPair (M .parties) (k / 32) (k % 32) && permitsPair M (listOf M) (pair (k / 32) (k % 32))) in
     let d : (0 + (32 * a + b)) / 32 ≡ a = omega arith in
     let m : (0 + (32 * a + b)) % 32 ≡ b = omega arith in
-    getD-map g (upFrom 0 1024) (32 * a + b) 0 0 (omega (arith, up-length 0 1024)) ∙ ap g (up-at 0 1024 (32 * a + b) 0 (omega arith)) ∙ rw (d, m)
+    getD-map g (upFrom 0 1024) (32 * a + b) 0 0 (omega (arith, up-length 0 1024))
+    ∙ ap g (up-at 0 1024 (32 * a + b) 0 (omega arith))
+    ∙ rw (d, m)
 
 pub bytes-bound : (M : Matter) → Limits M → length (bytesOf M) ≤ 2 + 992 * 31778
 unfolding bytesOf listOf
 bytes-bound M k =
     list-bound (plainList (minedList M)) (omega (arith, length-map plainTerm (minedList M), mined-terms-few M (k .parties .1)))
-    (λ t m. let s = map-out plainTerm (minedList M) m in
-    rw (s .2) (term-bound (plainTerm (s .0)) (omega (arith, length-map (λ i. i .word) (s .0), mined-items-few M (k .parties .1) (s .0) (s .1)))
-    (λ w n. let i = map-out (λ i. i .word) (s .0) n in rw (i .2) (omega (arith, mined-words M (s .0) (s .1) (i .0) (i .1) .short, k .longest .1)))))
+    (λ t m.
+    let s = map-out plainTerm (minedList M) m in
+    rw (s .2) (term-bound (plainTerm (s .0))
+    (omega (arith, length-map (λ i. i .word) (s .0), mined-items-few M (k .parties .1) (s .0) (s .1)))
+    (λ w n.
+    let i = map-out (λ i. i .word) (s .0) n in
+    rw (i .2) (omega (arith, mined-words M (s .0) (s .1) (i .0) (i .1) .short, k .longest .1)))))
 
 -- only an accepted file is convertible
 pub convertible-accepted : (f : List ℕ) (k : ℕ) → verdictCall f ≡ reply.Convertible k → checkOf f ≡ Accepted
@@ -160,7 +172,8 @@ module _ (f : List ℕ) (e : checkOf f ≡ Accepted) where
   call-in = rw e
 
   -- the verdict behind the reply
-  pub convertible-verdict : (k : ℕ) → verdictCall f ≡ reply.Convertible k → (verdictOf (matterOf f) ≡ convertible) × (length (bytesOf (matterOf f)) ≡ k)
+  pub convertible-verdict : (k : ℕ) → verdictCall f ≡ reply.Convertible k
+      → (verdictOf (matterOf f) ≡ convertible) × (length (bytesOf (matterOf f)) ≡ k)
   convertible-verdict k v = reply-convertible (length (bytesOf (matterOf f))) k (verdictOf (matterOf f)) (sym call-in ∙ v)
 
   small : {p : Pair} → IsPair (matterOf f .parties) p → (p .first < 32) × (p .second < 32)
@@ -170,7 +183,8 @@ module _ (f : List ℕ) (e : checkOf f ≡ Accepted) where
   pub verdict-given : (x : Refusal) → verdictCall f ≡ reply.Refused x → ⊥
   verdict-given x q = reply-refused (length (bytesOf (matterOf f))) x (verdictOf (matterOf f)) (sym call-in ∙ q)
 
-  -- convertible exactly where a rule list exists: any list at all with words of at most D symbols makes it so, and where it is so there is one of the language's own words
+  -- convertible exactly where a rule list exists: any list at all with words of at most D symbols makes it so,
+  -- and where it is so there is one of the language's own words
   pub verdict-exact :
       (((r : List (List Word)) × ConvertsAny (matterOf f) r) → (k : ℕ) × (verdictCall f ≡ reply.Convertible k))
       × (((k : ℕ) × (verdictCall f ≡ reply.Convertible k)) → (r : List (List Word)) × Converts (matterOf f) r)
@@ -180,65 +194,79 @@ module _ (f : List ℕ) (e : checkOf f ≡ Accepted) where
   )
 
   -- the path call for a pair and a word of the matter, with output enough
-  path-call : (p : Pair) → IsPair (matterOf f .parties) p → (v : Word) → MatterWord (matterOf f) v → (w : WordValue) → Carries w v → (size : ℕ)
-      → w .len + 1 ≤ size → pathCall f (p .first) (p .second) w size ≡ found (leastPath (enlarged (matterOf f)) p v)
+  path-call : (p : Pair) → IsPair (matterOf f .parties) p → (v : Word) → MatterWord (matterOf f) v → (w : WordValue) → Carries w v
+      → (size : ℕ) → w .len + 1 ≤ size → pathCall f (p .first) (p .second) w size ≡ found (leastPath (enlarged (matterOf f)) p v)
   unfolding pathCall
   path-call p h v m w c size k =
       let l = value-legal (matterOf f) v (m .over) (m .short) w c in
       rw e
-      (path-answer (matterOf f) (p .first) (p .second) w size (pair-is (matterOf f .parties) (p .first) (p .second) h) l (λ z. absurd (omega (arith, c .len, m .some))) k
+      (path-answer (matterOf f) (p .first) (p .second) w size (pair-is (matterOf f .parties) (p .first) (p .second) h) l
+      (λ z. absurd (omega (arith, c .len, m .some))) k
       ∙ rw (c .symbols))
 
-  path-shown : (p : Pair) → IsPair (matterOf f .parties) p → (v : Word) → HasWord (matterOf f) p v → (w : WordValue) → Carries w v → (output : List ℕ)
-      → w .len + 1 ≤ length output → ShowsPath f p w output
+  path-shown : (p : Pair) → IsPair (matterOf f .parties) p → (v : Word) → HasWord (matterOf f) p v → (w : WordValue) → Carries w v
+      → (output : List ℕ) → w .len + 1 ≤ length output → ShowsPath f p w output
   path-shown p h v m w c output k =
       by-found (leastPath (enlarged (matterOf f)) p v)
       (λ n. both (has-in (enlarged (matterOf f)) p v (m .1 .0) (m .1 .1)) (least-none (enlarged (matterOf f)) p v .0 n))
       (λ l n.
       let r = least-is-path (enlarged (matterOf f)) p v (m .0 .some) n in
       let z : l ≡ p .first ∷ r .0 = r .1 in
-      let a : pathCall f (p .first) (p .second) w (length output) ≡ writes (p .first ∷ r .0) = path-call p h v (m .0) w c (length output) k ∙ ap found n ∙ ap writes z in
-      let s : length (p .first ∷ r .0) ≡ w .len + 1 = ap length (sym z) ∙ least-size (enlarged (matterOf f)) p v n ∙ omega (arith, c .len) in
+      let a : pathCall f (p .first) (p .second) w (length output) ≡ writes (p .first ∷ r .0) =
+      path-call p h v (m .0) w c (length output) k ∙ ap found n ∙ ap writes z in
+      let s : length (p .first ∷ r .0) ≡ w .len + 1 =
+      ap length (sym z) ∙ least-size (enlarged (matterOf f)) p v n ∙ omega (arith, c .len) in
       record {
         via = r .0;
         path = rw (c .symbols) (r .2);
-        least = λ other o. subst (λ (y : List ℕ). (y ≡ p .first ∷ other) ⊎ (lexLess y (p .first ∷ other) ≡ true)) z (least-is-least (enlarged (matterOf f)) p v n other (rw (c .symbols) at o));
+        least = λ other o.
+            subst (λ (y : List ℕ). (y ≡ p .first ∷ other) ⊎ (lexLess y (p .first ∷ other) ≡ true)) z
+            (least-is-least (enlarged (matterOf f)) p v n other (rw (c .symbols) at o));
         answer = a;
         reply = rw a (ap WrotePath s);
         written = rw a (ap (λ (i : ℕ). (p .first ∷ r .0) ++ drop i output) s);
       })
 
-  -- not convertible, no word: the first permitted pair that has no word or has a rival; it has none, and the path call says so for every word
-  pub no-word-exact : (x : PairValue) → verdictCall f ≡ reply.NoWord x → FirstPair (matterOf f) (Hinders (matterOf f)) (pairIn x) × Wordless (matterOf f) (pairIn x)
-  no-word-exact x v = no-word-first (matterOf f) (pairIn x) (reply-no-word (length (bytesOf (matterOf f))) x (verdictOf (matterOf f)) (sym call-in ∙ v))
+  -- not convertible, no word: the first permitted pair that has no word or has a rival; it has none,
+  -- and the path call says so for every word
+  pub no-word-exact : (x : PairValue) → verdictCall f ≡ reply.NoWord x
+      → FirstPair (matterOf f) (Hinders (matterOf f)) (pairIn x) × Wordless (matterOf f) (pairIn x)
+  no-word-exact x v =
+      no-word-first (matterOf f) (pairIn x) (reply-no-word (length (bytesOf (matterOf f))) x (verdictOf (matterOf f)) (sym call-in ∙ v))
 
-  pub no-word-nothing : (x : PairValue) → verdictCall f ≡ reply.NoWord x → (v : Word) → MatterWord (matterOf f) v → (w : WordValue) → Carries w v
-      → (size : ℕ) → w .len + 1 ≤ size → pathCall f (x .first) (x .second) w size ≡ nothing
+  pub no-word-nothing : (x : PairValue) → verdictCall f ≡ reply.NoWord x → (v : Word) → MatterWord (matterOf f) v
+      → (w : WordValue) → Carries w v → (size : ℕ) → w .len + 1 ≤ size → pathCall f (x .first) (x .second) w size ≡ nothing
   no-word-nothing x t v m w c size k =
       let r = no-word-exact x t in
       let n : has (enlarged (matterOf f)) (pairIn x) v ≡ false =
-      by-test (has (enlarged (matterOf f)) (pairIn x) v) (λ h. absurd (r .1 v (m, has-out (enlarged (matterOf f)) (pairIn x) v (m .some) h))) (λ h. h) in
+      by-test (has (enlarged (matterOf f)) (pairIn x) v)
+      (λ h. absurd (r .1 v (m, has-out (enlarged (matterOf f)) (pairIn x) v (m .some) h))) (λ h. h) in
       path-call (pairIn x) (r .0 .isPair) v m w c size k ∙ rw (least-none (enlarged (matterOf f)) (pairIn x) v .1 n)
 
   -- not convertible, a rival: the same pair, its first rival, and at every word of the pair the path call shows a path for both
   pub rival-exact : (x y : PairValue) → verdictCall f ≡ reply.Rival x y
       → FirstPair (matterOf f) (Hinders (matterOf f)) (pairIn x) × FirstPair (matterOf f) (IsRival (matterOf f) (pairIn x)) (pairIn y)
-  rival-exact x y v = rival-first (matterOf f) (pairIn x) (pairIn y) (reply-rival (length (bytesOf (matterOf f))) x y (verdictOf (matterOf f)) (sym call-in ∙ v))
+  rival-exact x y v =
+      rival-first (matterOf f) (pairIn x) (pairIn y)
+      (reply-rival (length (bytesOf (matterOf f))) x y (verdictOf (matterOf f)) (sym call-in ∙ v))
 
   pub rival-shown :
       (x y : PairValue) → verdictCall f ≡ reply.Rival x y → (v : Word) → HasWord (matterOf f) (pairIn x) v → (w : WordValue) → Carries w v
       → (output : List ℕ) → 32 ≤ length output → ShowsPath f (pairIn x) w output × ShowsPath f (pairIn y) w output
   rival-shown x y t v h w c output k =
       let r = rival-exact x y t in
-      let room : w .len + 1 ≤ length output = omega (arith, c .len, h .0 .short, accepted-limits f e .longest .1) in
-      (path-shown (pairIn x) (r .0 .isPair) v h w c output room, path-shown (pairIn y) (r .1 .isPair) v (r .1 .here .all v h) w c output room)
+      let room : w .len + 1 ≤ length output = omega (arith, c .len, h .0 .short, accepted-limits f e .longest .1) in (
+        path-shown (pairIn x) (r .0 .isPair) v h w c output room,
+        path-shown (pairIn y) (r .1 .isPair) v (r .1 .here .all v h) w c output room,
+      )
 
   -- and every word of a matter has a value
   pub word-valued : (v : Word) → MatterWord (matterOf f) v → IsValue (wordOf v) × Carries (wordOf v) v
   word-valued v m =
       let n = accepted-limits f e in
       let small : (i : ℕ) → getD v i 0 < 256 =
-      getD-below 256 (omega arith) v (λ s o. omega (arith, alphabet-below (matterOf f .language) (matterOf f .labels) (m .over s o), n .labels .1)) in
+      getD-below 256 (omega arith) v
+      (λ s o. omega (arith, alphabet-below (matterOf f .language) (matterOf f .labels) (m .over s o), n .labels .1)) in
       (value-is v (omega (arith, m .short, n .longest .1)) small, value-carries v)
 
   permits-back : (a b : ℕ) → verdictOf (matterOf f) ≡ convertible → isPair (matterOf f .parties) a b ≡ true
@@ -252,23 +280,32 @@ module _ (f : List ℕ) (e : checkOf f ≡ Accepted) where
   table-back a b p q v =
       table-at (matterOf f) a b p q
       ∙ by-test (isPair (matterOf f .parties) a b)
-      (λ t. rw (t, mined-converts (matterOf f) refl v .any .exact (pair a b) (listed (matterOf f) (pair a b) (pair-of (matterOf f .parties) a b t))))
+      (λ t. rw (
+        t,
+        mined-converts (matterOf f) refl v .any .exact (pair a b)
+            (pairs-in (matterOf f .parties) (pair a b) (pair-of (matterOf f .parties) a b t)),
+      ))
       (λ t. rw t)
 
-  -- convertible: mining with scratch and output enough writes the list of that length, and permit on it and scratch give back the permit table
-  pub mining-exact : (k : ℕ) → verdictCall f ≡ reply.Convertible k → (scratch output : List ℕ) → 1024 ≤ length scratch → k ≤ length output → MinesList f k scratch output
+  -- convertible: mining with scratch and output enough writes the list of that length,
+  -- and permit on it and scratch give back the permit table
+  pub mining-exact : (k : ℕ) → verdictCall f ≡ reply.Convertible k → (scratch output : List ℕ) → 1024 ≤ length scratch → k ≤ length output
+      → MinesList f k scratch output
   unfolding miningCall miningIn
   mining-exact k v scratch output s o =
       let r = convertible-verdict k v in
       let z : length (bytesOf (matterOf f)) ≡ k = r .1 in
-      let a : miningCall f (length scratch) (length output) ≡ writesList (tableOf (matterOf f)) (bytesOf (matterOf f)) = rw (e, le-leb 1024 (length scratch) s, r .0, le-leb (length (bytesOf (matterOf f))) (length output) (omega arith)) in
+      let a : miningCall f (length scratch) (length output) ≡ writesList (tableOf (matterOf f)) (bytesOf (matterOf f)) =
+      rw (e, le-leb 1024 (length scratch) s, r .0, le-leb (length (bytesOf (matterOf f))) (length output) (omega arith)) in
       record {
         answer = a;
         reply = rw a (ap Wrote z);
         size = z;
         written = rw a (ap (λ (i : ℕ). bytesOf (matterOf f) ++ drop i output) z);
         permits = λ i j p. permits-back i j (r .0) p;
-        table = λ i j p q. rw a (List·getD-append (tableOf (matterOf f)) (drop 1024 scratch) 0 (32 * i + j) (omega (arith, table-length (matterOf f))) ∙ table-back i j p q (r .0));
+        table = λ i j p q.
+            rw a (List·getD-append (tableOf (matterOf f)) (drop 1024 scratch) 0 (32 * i + j) (omega (arith, table-length (matterOf f)))
+            ∙ table-back i j p q (r .0));
       }
 
   -- the numbers in a reply: a length that an output can have, and parties below 32
@@ -278,11 +315,13 @@ module _ (f : List ℕ) (e : checkOf f ≡ Accepted) where
   pub no-word-parties : (x : PairValue) → verdictCall f ≡ reply.NoWord x → (x .first < 32) × (x .second < 32)
   no-word-parties x v = small (no-word-exact x v .0 .isPair)
 
-  pub rival-parties : (x y : PairValue) → verdictCall f ≡ reply.Rival x y → ((x .first < 32) × (x .second < 32)) × ((y .first < 32) × (y .second < 32))
+  pub rival-parties : (x y : PairValue) → verdictCall f ≡ reply.Rival x y
+      → ((x .first < 32) × (x .second < 32)) × ((y .first < 32) × (y .second < 32))
   rival-parties x y v = let r = rival-exact x y v in (small (r .0 .isPair), small (r .1 .isPair))
 
   -- an output that is too short for the list
-  pub mining-short : (k : ℕ) → verdictCall f ≡ reply.Convertible k → (scratch output : ℕ) → 1024 ≤ scratch → output < k → miningCall f scratch output ≡ tooShort
+  pub mining-short : (k : ℕ) → verdictCall f ≡ reply.Convertible k → (scratch output : ℕ) → 1024 ≤ scratch → output < k
+      → miningCall f scratch output ≡ tooShort
   unfolding miningCall miningIn
   mining-short k v scratch output s o =
       let r = convertible-verdict k v in

@@ -57,7 +57,8 @@ module _ {P W : Type 0} (S : Problem P W) (r : RuleList W) (p : P) (ps : List P)
   unfolding verdictFrom
   verdict-pass e = rw (e, verdictFrom) refl
 
-  verdict-take : (S .permitted p && not (permits S r p)) ≡ true → verdictFrom S r (p ∷ ps) ≡ passing S (judge S p) (verdictFrom S (r ++ (termOf S p ∷ [])) ps)
+  verdict-take : (S .permitted p && not (permits S r p)) ≡ true
+      → verdictFrom S r (p ∷ ps) ≡ passing S (judge S p) (verdictFrom S (r ++ (termOf S p ∷ [])) ps)
   unfolding verdictFrom
   verdict-take e = rw (e, judge-from S p, verdictFrom) refl
 
@@ -114,7 +115,8 @@ pub term-fits : (M : Matter) (a : Archive) → Shows M a → (p : Pair) → leng
 unfolding termBytes
 term-fits M a s p =
     let f = owned-fits M a s p (termOf (problemIn a) p) (term-owned (problemIn a) p) (few-words M a s p) in
-    term-bound (plainTerm (termOf (problemIn a) p)) (omega (arith, length-map (λ i. i .word) (termOf (problemIn a) p), few-words M a s p)) (λ w m. f .words w m .len)
+    term-bound (plainTerm (termOf (problemIn a) p))
+    (omega (arith, length-map (λ i. i .word) (termOf (problemIn a) p), few-words M a s p)) (λ w m. f .words w m .len)
 
 -- before the pair of number k: the list so far, its marks and its size
 pub record Passing (a : Archive) (list : RuleList Word) (row : Row) (size k : ℕ) : Type 0 where
@@ -148,8 +150,12 @@ module _ (a : Archive) (l : RuleList Word) (row : Row) (size k : ℕ) (h : k < 1
       let f : (problemIn a .permitted (pairAt k) && not (permits (problemIn a) l (pairAt k))) ≡ false = rw i at e in
       record {
         marks = P .marks;
-        mined = sym (mine-pass (problemIn a) l (pairAt k) (pairsFrom (a .parties) (k + 1)) f) ∙ (rw (pairs-take (a .parties) k h i) at (P .mined));
-        judged = sym (verdict-pass (problemIn a) l (pairAt k) (pairsFrom (a .parties) (k + 1)) f) ∙ (rw (pairs-take (a .parties) k h i) at (P .judged));
+        mined =
+            sym (mine-pass (problemIn a) l (pairAt k) (pairsFrom (a .parties) (k + 1)) f)
+            ∙ (rw (pairs-take (a .parties) k h i) at (P .mined));
+        judged =
+            sym (verdict-pass (problemIn a) l (pairAt k) (pairsFrom (a .parties) (k + 1)) f)
+            ∙ (rw (pairs-take (a .parties) k h i) at (P .judged));
         sized = P .sized;
         bound = omega (arith, P .bound);
         few = omega (arith, P .few);
@@ -173,13 +179,19 @@ module _ (a : Archive) (l : RuleList Word) (row : Row) (size k : ℕ) (h : k < 1
     its-test = and-right (isPairAt (a .parties) k) _ e
 
     longer : mineFrom (problemIn a) (l ++ (termOf (problemIn a) (pairAt k) ∷ [])) (pairsFrom (a .parties) (k + 1)) ≡ mine (problemIn a)
-    longer = sym (mine-take (problemIn a) l (pairAt k) (pairsFrom (a .parties) (k + 1)) its-test) ∙ (rw (pairs-take (a .parties) k h its-pair) at (P .mined))
+    longer =
+        sym (mine-take (problemIn a) l (pairAt k) (pairsFrom (a .parties) (k + 1)) its-test)
+        ∙ (rw (pairs-take (a .parties) k h its-pair) at (P .mined))
 
-    onward : passing (problemIn a) (judge (problemIn a) (pairAt k)) (verdictFrom (problemIn a) (l ++ (termOf (problemIn a) (pairAt k) ∷ [])) (pairsFrom (a .parties) (k + 1))) ≡ verdict (problemIn a)
-    onward = sym (verdict-take (problemIn a) l (pairAt k) (pairsFrom (a .parties) (k + 1)) its-test) ∙ (rw (pairs-take (a .parties) k h its-pair) at (P .judged))
+    onward : passing (problemIn a) (judge (problemIn a) (pairAt k))
+        (verdictFrom (problemIn a) (l ++ (termOf (problemIn a) (pairAt k) ∷ [])) (pairsFrom (a .parties) (k + 1))) ≡ verdict (problemIn a)
+    onward =
+        sym (verdict-take (problemIn a) l (pairAt k) (pairsFrom (a .parties) (k + 1)) its-test)
+        ∙ (rw (pairs-take (a .parties) k h its-pair) at (P .judged))
 
     -- it has its term
-    pub pass-term : (M : Matter) → Shows M a → judge (problemIn a) (pairAt k) ≡ convertible → (more : Row) → Marks a (l ++ (termOf (problemIn a) (pairAt k) ∷ [])) more
+    pub pass-term : (M : Matter) → Shows M a → judge (problemIn a) (pairAt k) ≡ convertible → (more : Row)
+        → Marks a (l ++ (termOf (problemIn a) (pairAt k) ∷ [])) more
         → Passing a (l ++ (termOf (problemIn a) (pairAt k) ∷ [])) more (size + length (termBytes a (pairAt k))) (k + 1)
     unfolding termBytes
     pass-term M s j more m = record {
@@ -194,13 +206,18 @@ module _ (a : Archive) (l : RuleList Word) (row : Row) (size k : ℕ) (h : k < 1
     -- there is room for it in the list's bytes
     pub pass-room : size + length (termBytes a (pairAt k)) ≤ length (archiveBytes a)
     unfolding termBytes archiveBytes
-    pass-room = omega (arith, P .sized, terms-add-size l (termOf (problemIn a) (pairAt k)), terms-grow (problemIn a) (l ++ (termOf (problemIn a) (pairAt k) ∷ [])) (pairsFrom (a .parties) (k + 1)), ap (λ (r : RuleList Word). length (termsOf r)) longer, list-length (mine (problemIn a)))
+    pass-room =
+        let t = termOf (problemIn a) (pairAt k) in
+        let g = terms-grow (problemIn a) (l ++ (t ∷ [])) (pairsFrom (a .parties) (k + 1)) in
+        let s = ap (λ (r : RuleList Word). length (termsOf r)) longer in
+        omega (arith, P .sized, terms-add-size l t, g, s, list-length (mine (problemIn a)))
 
     -- where the whole is convertible its judgment is
     pub pass-fit : verdict (problemIn a) ≡ convertible → judge (problemIn a) (pairAt k) ≡ convertible
     pass-fit v =
         let i = pair-of (a .parties) (k / 32) (k % 32) its-pair in
-        verdict-out (problemIn a) v (pairAt k) (rw (problem-pairs a) (pairs-in (a .parties) (k / 32) (k % 32) (i .first) (i .second) (i .different))) (and-left (problemIn a .permitted (pairAt k)) _ its-test)
+        verdict-out (problemIn a) v (pairAt k) (rw (problem-pairs a) (pairs-in (a .parties) (pairAt k) i))
+        (and-left (problemIn a .permitted (pairAt k)) _ its-test)
 
     -- it is in the way
     stops : (v : Verdict Pair) → (v ≡ convertible → ⊥) → judge (problemIn a) (pairAt k) ≡ v → verdict (problemIn a) ≡ v
@@ -208,19 +225,25 @@ module _ (a : Archive) (l : RuleList Word) (row : Row) (size k : ℕ) (h : k < 1
     stops (noWord x) d j = sym (rw j at onward)
     stops (rivalled x q) d j = sym (rw j at onward)
 
-    pub pass-wordless : (at : ℕ) (old new : List ℕ) (t : Taken) (v : Verdict Pair) → judge (problemIn a) (pairAt k) ≡ v → JudgedAs a l k at old new v t
+    pub pass-wordless : (at : ℕ) (old new : List ℕ) (t : Taken) (v : Verdict Pair) → judge (problemIn a) (pairAt k) ≡ v
+        → JudgedAs a l k at old new v t
         → t .judgment ≡ Wordless → verdict (problemIn a) ≡ noWord (pairAt k)
     pass-wordless at old new t convertible j f e = clash (cc (sym (f .0) ∙ e))
-    pass-wordless at old new t (noWord x) j f e = stops (noWord x) (λ q. clash (cc q)) j ∙ ap noWord (own-no-word (problemIn a) (pairAt k) j)
+    pass-wordless at old new t (noWord x) j f e =
+        stops (noWord x) (λ q. clash (cc q)) j ∙ ap noWord (own-no-word (problemIn a) (pairAt k) j)
     pass-wordless at old new t (rivalled x q) j f e = clash (cc (sym f ∙ e))
 
-    pub pass-rival : (at : ℕ) (old new : List ℕ) (t : Taken) (r : PairValue) (v : Verdict Pair) → judge (problemIn a) (pairAt k) ≡ v → JudgedAs a l k at old new v t
+    pub pass-rival : (at : ℕ) (old new : List ℕ) (t : Taken) (r : PairValue) (v : Verdict Pair) → judge (problemIn a) (pairAt k) ≡ v
+        → JudgedAs a l k at old new v t
         → t .judgment ≡ Rivalled r → (q : Pair) × ((verdict (problemIn a) ≡ rivalled (pairAt k) q) × (r ≡ named q))
     pass-rival at old new t r convertible j f e = clash (cc (sym (f .0) ∙ e))
     pass-rival at old new t r (noWord x) j f e = clash (cc (sym f ∙ e))
-    pass-rival at old new t r (rivalled x q) j f e = (q, (stops (rivalled x q) (λ z. clash (cc z)) j ∙ ap (λ (y : Pair). rivalled y q) (own-rival (problemIn a) (pairAt k) j), cc (sym e ∙ f)))
+    pass-rival at old new t r (rivalled x q) j f e =
+        let o = own-rival (problemIn a) (pairAt k) j in
+        (q, (stops (rivalled x q) (λ z. clash (cc z)) j ∙ ap (λ (y : Pair). rivalled y q) o, cc (sym e ∙ f)))
 
-    pub pass-judged : (at : ℕ) (old new : List ℕ) (t : Taken) (v : Verdict Pair) → JudgedAs a l k at old new v t → t .judgment ≡ Fit → v ≡ convertible
+    pub pass-judged : (at : ℕ) (old new : List ℕ) (t : Taken) (v : Verdict Pair) → JudgedAs a l k at old new v t → t .judgment ≡ Fit
+        → v ≡ convertible
     pass-judged at old new t convertible f e = refl
     pass-judged at old new t (noWord x) f e = clash (cc (sym f ∙ e))
     pass-judged at old new t (rivalled x q) f e = clash (cc (sym f ∙ e))
@@ -229,7 +252,9 @@ module _ (a : Archive) (l : RuleList Word) (row : Row) (size k : ℕ) (h : k < 1
 pub pass-size : (a : Archive) (l : RuleList Word) (row : Row) (size k : ℕ) → Passing a l row size k → size ≤ length (archiveBytes a)
 unfolding archiveBytes
 pass-size a l row size k P =
-    omega (arith, P .sized, terms-grow (problemIn a) l (pairsFrom (a .parties) k), ap (λ (r : RuleList Word). length (termsOf r)) (P .mined), list-length (mine (problemIn a)))
+    let g = terms-grow (problemIn a) l (pairsFrom (a .parties) k) in
+    let s = ap (λ (r : RuleList Word). length (termsOf r)) (P .mined) in
+    omega (arith, P .sized, g, s, list-length (mine (problemIn a)))
 
 -- past the last pair
 pub pass-end : (a : Archive) (l : RuleList Word) (row : Row) (size k : ℕ) → 32 * a .parties ≤ k → Passing a l row size k

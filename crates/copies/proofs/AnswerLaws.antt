@@ -15,13 +15,14 @@ use Rattle.canonical.specs.Canonical.{canonicalOf}
 use Rattle.canonical.specs.Shape.{SameMatter}
 use Rattle.canonical.proofs.FileLaws.{accepted-matter}
 use Rattle.canonical.proofs.CopyLaws.{same-matter, canonical-file, write-copies}
+use Rattle.comparison.specs.Compare.{compareReply}
 use Rattle.report.specs.Report.{fileText}
 use Rattle.copies.specs.Answers.{AnswersAs}
 
 -- two files with one check's reply and one matter
 pub same-answers : (f g : List ℕ) → checkOf g ≡ checkOf f → matterOf g ≡ matterOf f → AnswersAs f g
 unfolding conversion.verdictCall conversion.miningCall path.pathCall path.nextCall permitReply
-    canonical.copyFor canonical.writeCall fileText
+    compareReply canonical.copyFor canonical.writeCall fileText
 same-answers f g c m = record {
   check = c;
   verdict = rw (c, m);
@@ -29,6 +30,7 @@ same-answers f g c m = record {
   path = λ a b w output. rw (c, m);
   next = λ a b w output. rw (c, m);
   permit = λ list a b. rw (c, m);
+  compare = λ list. rw (c, m);
   write = λ output. rw (c, m);
   text = rw (c, m);
 }

@@ -1,4 +1,5 @@
--- What each call of 01 and of Ticket 1 of 02 gives for a file: its reply, and every byte of the buffers lent to it; and two files for which every call gives the same.
+-- What each call of 01 and of Tickets 1 and 3 of 02 gives for a file: its reply, and every byte of the buffers lent to it;
+-- and two files for which every call gives the same.
 use Prim.Native.Nat.{ℕ}
 use mathlib.Core.Path.{_≡_}
 use mathlib.Core.List.{List}
@@ -12,6 +13,7 @@ use Rattle.conversion.specs.Calls as conversion
 use Rattle.conversion.specs.declared.mine.MiningReply.{MiningReply}
 use Rattle.canonical.specs.Calls as canonical
 use Rattle.canonical.specs.declared.reply.FileReply.{FileReply}
+use Rattle.comparison.specs.Compare.{compareReply}
 use Rattle.report.specs.Report.{fileText}
 
 -- mining's reply, scratch and output
@@ -39,5 +41,6 @@ pub record AnswersAs (f g : List ℕ) : Type 0 where
   pub path : (a b : ℕ) (w : Word) (output : List ℕ) → pathFor g a b w output ≡ pathFor f a b w output
   pub next : (a b : ℕ) (w : Word) (output : List ℕ) → nextFor g a b w output ≡ nextFor f a b w output
   pub permit : (list : List ℕ) (a b : ℕ) → permitReply g list a b ≡ permitReply f list a b
+  pub compare : (list : List ℕ) → compareReply g list ≡ compareReply f list
   pub write : (output : List ℕ) → writtenFor g output ≡ writtenFor f output
   pub text : fileText g ≡ fileText f

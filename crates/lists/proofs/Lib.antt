@@ -4,3 +4,4 @@ pub mod OrderLaws
 pub mod Distinct
 pub mod Pointwise
 pub mod Pieces
+pub mod ReorderLaws

@@ -43,7 +43,8 @@ module _ (n : ℕ) (few : n ≤ 32) where
       let r : k % 32 ≡ p .second = omega (arith, few, u, v) in
       let e : pairAt k ≡ p = rw (d, r) refl in
       let t : isPairAt n k ≡ true = rw (d, r) (pair-is n (p .first) (p .second) i) in
-      rw (← e) (map-in pairAt (filterBy (isPairAt n) (upFrom 0 1024)) (filter-in (isPairAt n) (upFrom 0 1024) (up-in 0 1024 k (omega arith) (omega (arith, few, u, v))) t))
+      let w = up-in 0 1024 k (omega arith) (omega (arith, few, u, v)) in
+      rw (← e) (map-in pairAt (filterBy (isPairAt n) (upFrom 0 1024)) (filter-in (isPairAt n) (upFrom 0 1024) w t))
 
   number-out : (p : Pair) → List·Memᴰ p (pairsFrom n 0) → List·Memᴰ p (pairsOf n)
   unfolding pairsFrom
@@ -51,14 +52,17 @@ module _ (n : ℕ) (few : n ≤ 32) where
       let s = map-out pairAt (filterBy (isPairAt n) (upFrom 0 1024)) m in
       let f = filter-out (isPairAt n) (upFrom 0 1024) (s .1) in
       let i = pair-of n (s .0 / 32) (s .0 % 32) (f .1) in
-      rw (s .2) (pairs-in n (s .0 / 32) (s .0 % 32) (i .first) (i .second) (i .different))
+      rw (s .2) (pairs-in n (pairAt (s .0)) i)
 
   numbered-ascending : Ascending pairBefore (pairsFrom n 0)
   unfolding pairsFrom
-  numbered-ascending = ascending-map ltb pairBefore pairAt later (filterBy (isPairAt n) (upFrom 0 1024)) (ascending-filter ltb (isPairAt n) (upFrom 0 1024) (up-ascending 0 1024))
+  numbered-ascending =
+      ascending-map ltb pairBefore pairAt later (filterBy (isPairAt n) (upFrom 0 1024))
+      (ascending-filter ltb (isPairAt n) (upFrom 0 1024) (up-ascending 0 1024))
 
   pub pairs-numbered : pairsFrom n 0 ≡ pairsOf n
-  pairs-numbered = ascending-equal pairBefore pair-one-way (pairsFrom n 0) (pairsOf n) numbered-ascending (pairs-ascending n) number-out number-in
+  pairs-numbered =
+      ascending-equal pairBefore pair-one-way (pairsFrom n 0) (pairsOf n) numbered-ascending (pairs-ascending n) number-out number-in
 
 -- from one number to the next
 module _ (n k : ℕ) (h : k < 1024) where
@@ -81,4 +85,6 @@ module _ (n k : ℕ) (h : k < 1024) where
 pub pairs-end : (n k : ℕ) → 32 * n ≤ k → pairsFrom n k ≡ []
 unfolding pairsFrom isPair
 pairs-end n k h =
-    rw (filter-none (isPairAt n) (upFrom k (1024 - k)) (λ i m. let r = up-out k (1024 - k) m in rw (le-ltb (i / 32) n (omega (arith, r .0, h))) refl)) refl
+    rw (filter-none (isPairAt n) (upFrom k (1024 - k)) (λ i m.
+    let r = up-out k (1024 - k) m in
+    rw (le-ltb (i / 32) n (omega (arith, r .0, h))) refl)) refl

@@ -2,7 +2,7 @@
 use mathlib.Core.Path.{_≡_, refl, sym, ap, _∙_}
 use mathlib.Core.Bool.{Bool, true, false}
 use mathlib.Core.List.{List}
-use mathlib.Core.Option.{some}
+use mathlib.Core.Option.{Option, some}
 use Prim.Native.Nat.{ℕ, _≤_}
 use native.Mathlib.Omega.{arith}
 use Rattle.lists.specs.Lists.{allOf}
@@ -35,26 +35,35 @@ list-is labels language longest few short b h l e =
     let k = encode-decode labels language longest b h l e in
     record { bytes = sym (k .bytes); fits = list-legal-fits labels language longest few short l (k .legal) }
 
+-- the list that the bytes are for an archive
+abbrev pub archiveList : Archive → List ℕ → Option (List (List (List ℕ)))
+archiveList a list = decodeList (a .labels) (a .language) (a .longest) list
+
 -- bytes that passed an archive's check decode to a list, and are that list's
-record Checked (M : Matter) (a : Archive) (list : List ℕ) : Type 0 where
-  listed : List (List (List ℕ))
-  decodes : decodeList (a .labels) (a .language) (a .longest) list ≡ some listed
-  is : IsList list listed
+pub record Checked (a : Archive) (list : List ℕ) : Type 0 where
+  pub listed : List (List (List ℕ))
+  pub decodes : archiveList a list ≡ some listed
+  pub is : IsList list listed
 
-checked : (M : Matter) (a : Archive) → Shows M a → (list : List ℕ) → Bytes list → isSome (decodeList (a .labels) (a .language) (a .longest) list) ≡ true → Checked M a list
+pub checked : (M : Matter) (a : Archive) → Shows M a → (list : List ℕ) → Bytes list → isSome (archiveList a list) ≡ true → Checked a list
 checked M a h list bytes e =
-    let o = some-of (decodeList (a .labels) (a .language) (a .longest) list) e in
-    record { listed = o .0; decodes = o .1; is = list-is (a .labels) (a .language) (a .longest) (omega (arith, h .labels, h .limits .labels .1)) (omega (arith, h .longest, h .limits .longest .1)) list bytes (o .0) (o .1) }
+    let o = some-of (archiveList a list) e in
+    let few : a .labels ≤ 8 = omega (arith, h .labels, h .limits .labels .1) in
+    let short : a .longest ≤ 31 = omega (arith, h .longest, h .limits .longest .1) in
+    record { listed = o .0; decodes = o .1; is = list-is (a .labels) (a .language) (a .longest) few short list bytes (o .0) (o .1) }
 
-pub checked-list : (M : Matter) (a : Archive) → Shows M a → (list : List ℕ) → Bytes list → isSome (decodeList (a .labels) (a .language) (a .longest) list) ≡ true → SomeList list
+pub checked-list : (M : Matter) (a : Archive) → Shows M a → (list : List ℕ) → Bytes list → isSome (archiveList a list) ≡ true
+    → SomeList list
 checked-list M a h list bytes e = let k = checked M a h list bytes e in (k .listed, k .is)
 
 module _ (M : Matter) (a : Archive) (h : Shows M a) where
   -- the masks and the matter give the same answers
-  pub same-answer : (first second : ℕ) (l : List (List (List ℕ))) → meetsList (a .parties) (a .graph) first second l ≡ permitsPair M l (pair first second)
+  pub same-answer : (first second : ℕ) (l : List (List (List ℕ)))
+      → meetsList (a .parties) (a .graph) first second l ≡ permitsPair M l (pair first second)
   unfolding meetsList meetsTerm permitsPair hasAll
   same-answer first second l =
-      any-same (meetsTerm (a .parties) (a .graph) first second) (hasAll M (pair first second)) l (λ t m. ap (λ (g : Graph ℕ). allOf (has g (pair first second)) t) (shown-graph M a h))
+      any-same (meetsTerm (a .parties) (a .graph) first second) (hasAll M (pair first second)) l
+      (λ t m. ap (λ (g : Graph ℕ). allOf (has g (pair first second)) t) (shown-graph M a h))
 
   module _ (list : List ℕ) (first second : ℕ) where
     pub no-pair : isPair (a .parties) first second ≡ false → permitIn M list first second ≡ Refused PartyPair
@@ -62,15 +71,16 @@ module _ (M : Matter) (a : Archive) (h : Shows M a) where
     no-pair e = rw (← h .parties, e)
 
     module _ (p : isPair (a .parties) first second ≡ true) where
-      in-pair : permitIn M list first second ≡ answerBy M (pair first second) (decodeList (a .labels) (a .language) (a .longest) list)
+      in-pair : permitIn M list first second ≡ answerBy M (pair first second) (archiveList a list)
       unfolding permitIn
       in-pair = rw (← h .parties, p, ← h .labels, ← h .language, ← h .longest)
 
-      pub no-list : isSome (decodeList (a .labels) (a .language) (a .longest) list) ≡ false → permitIn M list first second ≡ Refused RuleList
-      no-list e = in-pair ∙ rw (none-of (decodeList (a .labels) (a .language) (a .longest) list) e)
+      pub no-list : isSome (archiveList a list) ≡ false → permitIn M list first second ≡ Refused RuleList
+      no-list e = in-pair ∙ rw (none-of (archiveList a list) e)
 
-      module _ (bytes : Bytes list) (e : isSome (decodeList (a .labels) (a .language) (a .longest) list) ≡ true) where
-        pub the-answer : (r : Bool) → ((l : List (List (List ℕ))) → IsList list l → r ≡ meetsList (a .parties) (a .graph) first second l) → permitIn M list first second ≡ yesOrNo r
+      module _ (bytes : Bytes list) (e : isSome (archiveList a list) ≡ true) where
+        pub the-answer : (r : Bool) → ((l : List (List (List ℕ))) → IsList list l → r ≡ meetsList (a .parties) (a .graph) first second l)
+            → permitIn M list first second ≡ yesOrNo r
         the-answer r k =
             let o = checked M a h list bytes e in
             in-pair ∙ rw (o .decodes) (ap yesOrNo (sym (k (o .listed) (o .is) ∙ same-answer first second (o .listed))))

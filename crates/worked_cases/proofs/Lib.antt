@@ -1,3 +1,4 @@
 pub mod CasesHold
 pub mod FilesHold
 pub mod CopiesHold
+pub mod ComparisonsHold
