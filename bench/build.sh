@@ -3,7 +3,7 @@
 #
 #     bench/build.sh OUTPUT ARCHIVE              search and next-word, with the product's libbench_api.a
 #     bench/build.sh OUTPUT                      the twin alone
-#     bench/build.sh --convert OUTPUT ARCHIVE    verdict and mining, with the product's libconsole.a
+#     bench/build.sh --convert OUTPUT ARCHIVE    verdict and mining, with the product's libhempmallet.a
 #     bench/build.sh --convert OUTPUT            the twin alone
 #     bench/build.sh --library OUTPUT            the twin as an archive with the console's three functions
 set -eu

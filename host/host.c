@@ -76,7 +76,7 @@ static void print_permits(const uint8_t *list, size_t list_len)
 static int mine_and_print(size_t length)
 {
     static uint8_t scratch[HEMPMALLET_SCRATCH];
-    uint8_t *list = malloc(length);
+    uint8_t *list = (uint8_t *)malloc(length); /* the cast is for C++ */
     if (list == NULL) {
         return fail("no memory for the list");
     }

@@ -1,4 +1,5 @@
-"""Compile the C host with all warnings as errors, run it on the examples, and compare what it prints.
+"""Compile the header and the C host as C99, C17 and C++ with all warnings as errors, run the host on the examples, and compare
+what it prints.
 
     python3 tests/run_host.py PATH_OF_ARCHIVE
 
@@ -19,6 +20,29 @@ import stored
 
 ROOT = os.path.join(os.path.dirname(os.path.abspath(__file__)), os.pardir)
 SECONDS_FOR_FILE = 60
+
+# The languages that the header and the host are compiled as; g++ takes a .c file for C++.
+LANGUAGES = [("gcc", "-std=c99"), ("gcc", "-std=c17"), ("g++", "-std=c++11")]
+WARNINGS = ["-Wall", "-Wextra", "-Wpedantic", "-Werror"]
+
+# The header before any other and twice, each of its functions used.
+HEADER_ALONE = """#include "hempmallet.h"
+#include "hempmallet.h"
+
+int main(void)
+{
+    uint64_t reply = hempmallet_verdict((const uint8_t *)"", 0);
+    uint8_t byte = 0;
+    if (!hempmallet_refused(reply) || hempmallet_kind(reply) != HEMPMALLET_REFUSED_LENGTH || hempmallet_length(reply) != 0
+        || hempmallet_mining(&byte, 0, &byte, 0, &byte, 0) != HEMPMALLET_REFUSED_LENGTH
+        || hempmallet_permit(&byte, 0, &byte, 0, 0, 1) != HEMPMALLET_REFUSED_LENGTH) {
+        return 1;
+    }
+    reply = UINT64_C(0x0403020182);
+    return hempmallet_kind(reply) == HEMPMALLET_RIVAL && hempmallet_first(reply) == 1 && hempmallet_second(reply) == 2
+        && hempmallet_rival_first(reply) == 3 && hempmallet_rival_second(reply) == 4 ? 0 : 1;
+}
+"""
 
 # What the host prints for 01's cases and for files beside them, and its exit status.
 WRITTEN = {
@@ -45,12 +69,29 @@ def convertible_text(data):
     return text + "".join("permits %d %d\n" % pair for pair in sorted(known.house.permits))
 
 
-def compile_host(archive, folder):
-    """Returns the program's path."""
-    host = os.path.join(folder, "host")
-    subprocess.run(["gcc", "-std=c99", "-pedantic", "-Wall", "-Wextra", "-Werror", "-I", os.path.join(ROOT, "include"),
-                    os.path.join(ROOT, "host", "host.c"), archive, "-o", host], check=True)
-    return host
+def compiled(language, source, archive, program):
+    """Compile and link one source as a language; returns the program's path."""
+    subprocess.run([*language, *WARNINGS, "-I", os.path.join(ROOT, "include"), source, archive, "-o", program], check=True)
+    return program
+
+
+def hold_header(tally, language, archive, folder):
+    """The header compiles by itself, and its functions answer."""
+    source = os.path.join(folder, "header.c")
+    with open(source, "w", encoding="utf-8") as out:
+        out.write(HEADER_ALONE)
+    ended = subprocess.run([compiled(language, source, archive, os.path.join(folder, "header"))], timeout=SECONDS_FOR_FILE)
+    tally.hold(ended.returncode == 0, lambda: ("the header by itself, %s: status %d" % (" ".join(language), ended.returncode),))
+
+
+def hold_host(tally, language, host, folder, expected):
+    """The host prints what it must for each file."""
+    for name, (text, status) in sorted(expected.items()):
+        ended = subprocess.run([host, os.path.join(folder, name)], stdout=subprocess.PIPE,
+                               stderr=subprocess.DEVNULL, timeout=SECONDS_FOR_FILE)
+        found = ended.stdout.decode("latin-1"), ended.returncode
+        tally.hold(found == (text, status), lambda: (
+            "%s, %s:" % (name, " ".join(language)), "  expected: %r and %d" % (text, status), "  found:    %r and %d" % found))
 
 
 def write_files(folder):
@@ -79,19 +120,16 @@ def main(arguments):
     if len(arguments) != 2:
         tally.fault("usage: run_host.py PATH_OF_ARCHIVE")
         return tally.close()
+    archive = os.path.abspath(arguments[1])
     with tempfile.TemporaryDirectory() as folder:
         try:
-            host = compile_host(os.path.abspath(arguments[1]), folder)
             expected = write_files(folder)
+            for language in LANGUAGES:
+                hold_header(tally, language, archive, folder)
+                host = compiled(language, os.path.join(ROOT, "host", "host.c"), archive, os.path.join(folder, "host"))
+                hold_host(tally, language, host, folder, expected)
         except (OSError, ValueError, subprocess.SubprocessError) as error:
             tally.fault("the host cannot be run: %s" % error)
-            return tally.close()
-        for name, (text, status) in sorted(expected.items()):
-            ended = subprocess.run([host, os.path.join(folder, name)], stdout=subprocess.PIPE,
-                                   stderr=subprocess.DEVNULL, timeout=SECONDS_FOR_FILE)
-            found = ended.stdout.decode("latin-1"), ended.returncode
-            tally.hold(found == (text, status), lambda: (
-                "%s:" % name, "  expected: %r and %d" % (text, status), "  found:    %r and %d" % found))
     return tally.close()
 
 

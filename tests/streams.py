@@ -179,7 +179,7 @@ def status_trials(binary, whole):
 
 
 def trials(binary, whole, beyond_small, beyond_usual):
-    """whole: some files and their texts, the first a short one. The other two files have a text longer than a small or a usual pipe holds."""
+    """whole: some files and their texts, the first a short one. The other two have a text longer than a small or a usual pipe holds."""
     yield from read_trials(binary, whole[0][0])
     yield from write_trials(binary, whole[0][0], beyond_small)
     yield from piece_trials(binary, whole, beyond_usual)

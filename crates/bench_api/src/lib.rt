@@ -2,9 +2,10 @@
 ghost use Prim.Native.Nat.{_+_, _≤_};
 ghost use lib.ListN.{length};
 ghost use Rattle.rebac.specs.Matter.{Matter};
-ghost use Rattle.graph.specs.Archive.{Shows};
+ghost use Rattle.graph.specs.promises.Archive.{Shows};
 use graph::Archive;
 use house_layout::Check;
+use limits::WORD_CAPACITY;
 use search::Word;
 use words::Next;
 
@@ -20,9 +21,9 @@ fn wider(x: u8) -> u64 {
 fn word_at(calls: &[u8], at: usize) -> Word
     requires { ⌜ at + 34 ≤ length (now calls) ⌝ }
 {
-    let mut symbols = [0u8; 31];
+    let mut symbols = [0u8; WORD_CAPACITY];
     let mut i = 0;
-    while i < 31 {
+    while i < WORD_CAPACITY {
         symbols[i] = calls[at + 3 + i];
         i += 1;
     }
@@ -37,7 +38,7 @@ fn has(a: Archive, first: usize, second: usize, w: Word) -> bool
     requires { ⌜ ((M : Matter) × Shows M a) ⌝ }
 {
     if graph::is_pair(a.parties, first, second) {
-        if paths::legal_word(a.labels, a.language, a.longest, w) {
+        if paths::legal_given_word(a.labels, a.language, a.longest, w) {
             let g = a.graph;
             return search::has_word(g, a.parties, first, second, w);
         }
@@ -50,7 +51,7 @@ fn next(a: Archive, first: usize, second: usize, w: Word) -> Next
     requires { ⌜ ((M : Matter) × Shows M a) ⌝ }
 {
     if graph::is_pair(a.parties, first, second) {
-        if paths::legal_word(a.labels, a.language, a.longest, w) {
+        if paths::legal_given_word(a.labels, a.language, a.longest, w) {
             let g = a.graph;
             return words::next_word(g, a.parties, first, second, a.longest, w);
         }
@@ -66,7 +67,7 @@ fn weight(w: Word) -> u64 {
     let len = w.len;
     let mut sum = len as u64;
     let mut i = 0;
-    while i < 31 {
+    while i < WORD_CAPACITY {
         if i < len {
             sum = std::num::wrapping_add_u64(sum, wider(w.symbols[i]));
         }

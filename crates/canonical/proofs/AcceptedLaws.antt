@@ -13,14 +13,14 @@ use Rattle.house_layout.specs.declared.reply.Check.the-variants.{Accepted}
 use Rattle.house_layout.proofs.LayoutLaws.{owner-named}
 use Rattle.house_layout.proofs.RecordLaws.{kind-cases}
 use Rattle.house_file.specs.Check.{checkOf}
-use Rattle.house_file.specs.Meaning.{chainOf, IsEdition, FieldsRight, WellFormed}
+use Rattle.house_file.specs.Meaning.{chainOf, IsEdition, FieldsRight, RecordsRight, WellFormed}
 use Rattle.house_file.proofs.WellFormedLaws.{accepted-iff-well-formed}
 use Rattle.canonical.specs.Canonical.{Entry, entriesOf, firstOf, canonicalOf}
 use Rattle.canonical.specs.Shape.{InLimits}
 use Rattle.canonical.proofs.LayoutLaws.{noEntry, first-step, first-order, canonical-size, canonical-edition}
 use Rattle.canonical.proofs.LayoutLaws.{canonical-zero, canonical-parties, canonical-labels}
 use Rattle.canonical.proofs.LayoutLaws.{canonical-language, canonical-longest, canonical-records}
-use Rattle.canonical.proofs.EntryLaws.{Says, entry-out, entries-distinct, says-pair, entries-few}
+use Rattle.canonical.proofs.EntryLaws.{Says, entry-out, entries-distinct, says-pair, entries-bounded}
 use Rattle.canonical.proofs.ChainLaws.{At, canonical-chain, canonical-linked, chain-at, canonical-reached}
 
 module _ (e : ℕ) (known : IsEdition e) (M : Matter) (i : InLimits M) where
@@ -32,7 +32,7 @@ module _ (e : ℕ) (known : IsEdition e) (M : Matter) (i : InLimits M) where
     language = rw (canonical-language e M) (i .limits .language);
     longest = rw (canonical-longest e M) (i .limits .longest);
     zeroByte = canonical-zero e M;
-    records = rw (canonical-records e M) (entries-few M i);
+    records = rw (canonical-records e M) (entries-bounded M i);
   }
 
   -- what stands at a place of party u's chain
@@ -65,11 +65,8 @@ module _ (e : ℕ) (known : IsEdition e) (M : Matter) (i : InLimits M) where
   inner : (u : ℕ) → u < partiesOf (canonicalOf e M) → u < M .parties
   inner u h = rw (canonical-parties e M) at h
 
-  pub canonical-well-formed : WellFormed (canonicalOf e M)
-  canonical-well-formed = record {
-    long = omega (arith, canonical-size e M);
-    fields = fields;
-    size = canonical-size e M ∙ rw (canonical-edition e M, canonical-parties e M, canonical-records e M);
+  pub canonical-right : RecordsRight (canonicalOf e M) (chainOf (canonicalOf e M))
+  canonical-right = record {
     linked = λ u h. canonical-linked e M u (inner u h);
     reached = λ r a b.
         let w = canonical-reached e M r a (rw (canonical-records e M) at b) in
@@ -92,6 +89,15 @@ module _ (e : ℕ) (known : IsEdition e) (M : Matter) (i : InLimits M) where
         let k = ap (λ (x : Record). x .kind) (a .says) in
         rw (k, canonical-labels e M) (kind-cases (M .labels) _ (entry-at u g r a .legal));
     different = λ u r s h m n t k. different u (inner u h) r s m n t k;
+  }
+
+  pub canonical-well-formed : WellFormed (canonicalOf e M)
+  canonical-well-formed = record {
+    long = omega (arith, canonical-size e M);
+    fields = fields;
+    size = canonical-size e M ∙ rw (canonical-edition e M, canonical-parties e M, canonical-records e M);
+    chain = chainOf (canonicalOf e M);
+    records = canonical-right;
   }
 
   pub canonical-accepted : checkOf (canonicalOf e M) ≡ Accepted

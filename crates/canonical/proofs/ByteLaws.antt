@@ -1,12 +1,12 @@
 -- The canonical file of a matter in limits is made of bytes: its numbers are small, and two-byte fields are below 65,536. Assumes nothing.
-use mathlib.Core.Logic.{⊎-elim, by-cases}
-use mathlib.Core.List.{List, [], _∷_, _++_, List·Memᴰ, List·Memᴰ·not-nil, List·Memᴰ·append-cases}
-use Prim.Native.Nat.{ℕ, suc, _+_, _/_, _%_, _≤_, _<_}
+use mathlib.Core.Logic.{by-cases}
+use mathlib.Core.List.{List, [], _∷_, _++_, List·Memᴰ, List·Memᴰ·not-nil}
+use Prim.Native.Nat.{ℕ, suc, _/_, _%_, _≤_, _<_}
 use native.Mathlib.Omega.{arith}
 use native.Mathlib.Decide.{decLt}
 use lib.Dec.{eqb}
 use Rattle.lists.specs.Lists.{flatMap, range}
-use Rattle.lists.proofs.Cases.{by-test, by-mem}
+use Rattle.lists.proofs.Cases.{by-test, by-mem, by-append}
 use Rattle.lists.proofs.ListLaws.{flat-out, range-out}
 use Rattle.lists.proofs.Pointwise.{getD-below}
 use Rattle.fields.specs.Numbers.{u16Bytes, Bytes}
@@ -19,7 +19,7 @@ use Rattle.canonical.specs.Canonical.{Entry, entriesOf, countOf, firstOf
 use Rattle.canonical.specs.Canonical.{ownerBytes, recordBytes, headerFor, canonicalOf}
 use Rattle.canonical.specs.Shape.{InLimits}
 use Rattle.canonical.proofs.LayoutLaws.{first-most, linked-out}
-use Rattle.canonical.proofs.EntryLaws.{entry-out, entries-few}
+use Rattle.canonical.proofs.EntryLaws.{entry-out, entries-bounded}
 use Rattle.canonical.proofs.ChainLaws.{link-inside, link-past}
 
 abbrev Small : List ℕ → Type 0
@@ -32,7 +32,7 @@ small-cons : (y : ℕ) (l : List ℕ) → y < 256 → Small l → Small (y ∷ l
 small-cons y l h s x m = by-mem m (λ e. omega arith) (λ n. s x n)
 
 small-append : (l k : List ℕ) → Small l → Small k → Small (l ++ k)
-small-append l k s t x m = ⊎-elim (λ (n : List·Memᴰ x l). s x n) (λ (n : List·Memᴰ x k). t x n) (List·Memᴰ·append-cases l m)
+small-append l k s t x m = by-append l m (λ n. s x n) (λ n. t x n)
 
 small-flat : {A : Type 0} (f : A → List ℕ) (l : List A) → ((y : A) → List·Memᴰ y l → Small (f y)) → Small (flatMap f l)
 small-flat f l s x m = let r = flat-out f l m in s (r .0) (r .1) x (r .2)
@@ -46,7 +46,7 @@ link-below end r = by-cases (decLt r end) (λ h. omega (arith, link-inside end r
 
 module _ (d : ℕ) (known : IsEdition d) (M : Matter) (i : InLimits M) where
   end-small : (u : ℕ) → u < M .parties → firstOf M (suc u) < 65536
-  end-small u h = omega (arith, first-most M (suc u) h, entries-few M i)
+  end-small u h = omega (arith, first-most M (suc u) h, entries-bounded M i)
 
   header-small : Small (headerBytes (headerFor d M))
   unfolding headerBytes
@@ -57,7 +57,7 @@ module _ (d : ℕ) (known : IsEdition d) (M : Matter) (i : InLimits M) where
       (small-cons (M .language) _ (omega (arith, i .limits .language))
       (small-cons (M .longest) _ (omega (arith, i .limits .longest .1))
       (small-cons 0 _ (omega arith)
-      (small-u16 (countOf M) (omega (arith, entries-few M i))))))))
+      (small-u16 (countOf M) (omega (arith, entries-bounded M i))))))))
 
   head-small : (u : ℕ) → u < M .parties → Small (u16Bytes (link (firstOf M (suc u)) (firstOf M u)))
   head-small u h =

@@ -14,8 +14,8 @@ use Rattle.lists.proofs.Pieces.{flat-within}
 use Rattle.rebac.specs.Matter.{Matter}
 use Rattle.house_layout.specs.Layout.{headOf, recordsOf, recordOf}
 use Rattle.house_layout.specs.declared.record.Record.{Record}
-use Rattle.house_file.specs.Meaning.{chainFrom, chainOf, Linked}
-use Rattle.house_file.proofs.WalkLaws.{chain-end, chain-step}
+use Rattle.house_file.specs.Meaning.{chainFrom, chainOf, IsChain}
+use Rattle.house_file.proofs.FollowLaws.{chain-end, chain-step}
 use Rattle.canonical.specs.Canonical.{entriesOf, entriesBelow, countOf, firstOf, link, canonicalOf, recordFor}
 use Rattle.canonical.proofs.LayoutLaws.{noEntry, first-step, first-most, canonical-records, canonical-head, party-record}
 
@@ -26,7 +26,7 @@ pub link-past : (end r : ℕ) → end ≤ r → link end r ≡ 0
 link-past end r h = rw (le-ltb r end h)
 
 module _ (e : ℕ) (M : Matter) (u : ℕ) (h : u < M .parties) where
-  -- record r of the chain
+  -- record r of the chain is that of the entry at its place
   chain-record : (r : ℕ) → firstOf M u ≤ r → r < firstOf M (suc u)
       → recordOf (canonicalOf e M) r ≡ recordFor e (firstOf M (suc u)) r (getD (entriesOf M u) (r - firstOf M u) noEntry)
   chain-record r a b =
@@ -64,7 +64,7 @@ module _ (e : ℕ) (M : Matter) (u : ℕ) (h : u < M .parties) where
   size : firstOf M (suc u) - firstOf M u ≡ length (entriesOf M u)
   size = omega (arith, first-step M u)
 
-  -- party u's chain
+  -- party u's chain is as many consecutive numbers as the party has entries
   pub canonical-chain : chainOf (canonicalOf e M) u ≡ upFrom (firstOf M u) (length (entriesOf M u))
   unfolding chainOf
   canonical-chain =
@@ -73,7 +73,8 @@ module _ (e : ℕ) (M : Matter) (u : ℕ) (h : u < M .parties) where
       (omega (arith, canonical-records e M, first-most M (suc u) h))
       ∙ ap (upFrom (firstOf M u)) size
 
-  linked-from : (j r : ℕ) → firstOf M u ≤ r → r + j ≡ firstOf M (suc u) → Linked (canonicalOf e M) (link (firstOf M (suc u)) r) (upFrom r j)
+  linked-from : (j r : ℕ) → firstOf M u ≤ r → r + j ≡ firstOf M (suc u)
+      → IsChain (canonicalOf e M) (link (firstOf M (suc u)) r) (upFrom r j)
   unfolding upFrom
   linked-from zero r a q = link-past (firstOf M (suc u)) r (omega arith)
   linked-from (suc j) r a q =
@@ -81,7 +82,7 @@ module _ (e : ℕ) (M : Matter) (u : ℕ) (h : u < M .parties) where
       rw (link-inside (firstOf M (suc u)) r g)
       (refl, (omega arith, (number-most r g, rw (names-next r a g) (linked-from j (suc r) (omega arith) (omega arith)))))
 
-  pub canonical-linked : Linked (canonicalOf e M) (headOf (canonicalOf e M) u) (chainOf (canonicalOf e M) u)
+  pub canonical-linked : IsChain (canonicalOf e M) (headOf (canonicalOf e M) u) (chainOf (canonicalOf e M) u)
   canonical-linked =
       rw (canonical-chain, head-link)
       (linked-from (length (entriesOf M u)) (firstOf M u) (omega arith) (sym (first-step M u)))

@@ -4,7 +4,7 @@ use mathlib.Core.Path.{_≡_, sym, ap, _∙_}
 use mathlib.Core.Logic.{_↔_, _⊎_, inl, inr, by-cases}
 use mathlib.Core.Bool.{true}
 use mathlib.Core.List.{List}
-use Prim.Native.Nat.{ℕ, _+_, _*_, _≤_, _<_}
+use Prim.Native.Nat.{ℕ, _≤_, _<_}
 use native.Mathlib.Omega.{arith}
 use native.Mathlib.Decide.{decLt}
 use lib.Dec.{leb}
@@ -12,7 +12,7 @@ use lib.ListN.{length}
 use Rattle.lists.proofs.Cases.{by-test, clash}
 use Rattle.lists.proofs.Distinct.{distinct-equal}
 use Rattle.rebac.specs.Matter.{Matter}
-use Rattle.house_layout.specs.Layout.{partiesOf, labelsOf, recordsOf, recordSize}
+use Rattle.house_layout.specs.Layout.{partiesOf, labelsOf, recordsOf, fileSize}
 use Rattle.house_layout.specs.declared.reply.Refusal.{Refusal}
 use Rattle.house_layout.specs.declared.reply.Refusal.the-variants.{Output}
 use Rattle.house_layout.specs.declared.reply.Check.the-variants as check
@@ -22,15 +22,16 @@ use Rattle.house_layout.proofs.RefusalNumbers.{refusal-said}
 use Rattle.house_file.proofs.FileRefusals.{OfFile, file-refusals}
 use Rattle.house_file.specs.Check.{checkOf}
 use Rattle.house_file.specs.Meaning.{IsEdition, recorded}
+use Rattle.house_file.proofs.LinkedLaws.{records-right}
 use Rattle.house_file.proofs.WellFormedLaws.{accepted-iff-well-formed}
-use Rattle.graph.specs.Archive.{matterOf}
+use Rattle.graph.specs.FileMatter.{matterOf}
 use Rattle.canonical.specs.Canonical.{countOf, canonicalOf, writtenEdition}
 use Rattle.canonical.specs.Calls.{refuses, writes, saidFile, writeIn, copyFor, writeCall}
 use Rattle.canonical.specs.Shape.{InLimits, SameMatter, FileFor, CopyOf}
 use Rattle.canonical.specs.declared.reply.FileReply.{FileReply}
 use Rattle.canonical.specs.declared.reply.FileReply.the-variants.{Refused, Wrote}
 use Rattle.canonical.proofs.LayoutLaws.{canonical-size, canonical-edition, canonical-labels, canonical-records}
-use Rattle.canonical.proofs.AcceptedLaws.{canonical-well-formed, canonical-accepted}
+use Rattle.canonical.proofs.AcceptedLaws.{canonical-right, canonical-accepted}
 use Rattle.canonical.proofs.MatterLaws.{canonical-recorded, canonical-matter}
 use Rattle.canonical.proofs.ShapeLaws.{canonical-shape}
 use Rattle.canonical.proofs.StandsLaws.{short-in, fits-in}
@@ -61,8 +62,8 @@ module _ (f : List ℕ) (a : checkOf f ≡ check.Accepted) where
   pub accepted-count : recordsOf f ≡ countOf (matterOf f)
   accepted-count =
       let c : List ℕ = canonicalOf writtenEdition (matterOf f) in
-      let w = accepted-iff-well-formed f .0 a in
-      let y = canonical-well-formed writtenEdition written-known (matterOf f) (accepted-matter f a) in
+      let w = records-right f (accepted-iff-well-formed f .0 a) in
+      let y = canonical-right writtenEdition written-known (matterOf f) (accepted-matter f a) in
       let z : labelsOf c ≡ labelsOf f = canonical-labels writtenEdition (matterOf f) ∙ matter-labels f in
       sym (recorded-length f w)
       ∙ distinct-equal (recordedIn f) (recordedIn c) (recorded-distinct f w) (recorded-distinct c y)
@@ -78,14 +79,14 @@ module _ (f : List ℕ) (a : checkOf f ≡ check.Accepted) where
       ∙ canonical-records writtenEdition (matterOf f)
 
   -- so the length of a canonical file of its matter follows from the file's own numbers
-  pub canonical-length : (e : ℕ) → length (canonicalOf e (matterOf f)) ≡ 8 + 2 * partiesOf f + recordSize e * recordsOf f
+  pub canonical-length : (e : ℕ) → length (canonicalOf e (matterOf f)) ≡ fileSize e (partiesOf f) (recordsOf f)
   canonical-length e =
       canonical-size e (matterOf f)
-      ∙ ap (λ (n : ℕ). 8 + 2 * n + recordSize e * countOf (matterOf f)) (matter-parties f)
-      ∙ ap (λ (r : ℕ). 8 + 2 * partiesOf f + recordSize e * r) (sym accepted-count)
+      ∙ ap (λ (n : ℕ). fileSize e n (countOf (matterOf f))) (matter-parties f)
+      ∙ ap (fileSize e (partiesOf f)) (sym accepted-count)
 
-  pub copy-size : length (copyFor f) ≡ 8 + 2 * partiesOf f + 5 * recordsOf f
-  unfolding copyFor recordSize
+  pub copy-size : length (copyFor f) ≡ fileSize writtenEdition (partiesOf f) (recordsOf f)
+  unfolding copyFor
   copy-size = canonical-length writtenEdition
 
   pub copied : CopyOf f (copyFor f)
@@ -148,20 +149,20 @@ write-refused f x size e = rw e
 
 module _ (f : List ℕ) (a : checkOf f ≡ check.Accepted) where
   write-accepted : (size : ℕ) → writeCall f size ≡ writeIn (copyFor f) size
-  unfolding writeCall
+  unfolding writeCall copyFor
   write-accepted size = rw a
 
   -- 14 where the output is shorter than the copy
-  pub write-short : (size : ℕ) → size < 8 + 2 * partiesOf f + 5 * recordsOf f → writeCall f size ≡ refuses Output
+  pub write-short : (size : ℕ) → size < fileSize writtenEdition (partiesOf f) (recordsOf f) → writeCall f size ≡ refuses Output
   write-short size h = write-accepted size ∙ short-in (copyFor f) size (omega (arith, copy-size f a))
 
-  pub write-fits : (size : ℕ) → 8 + 2 * partiesOf f + 5 * recordsOf f ≤ size → writeCall f size ≡ writes (copyFor f)
+  pub write-fits : (size : ℕ) → fileSize writtenEdition (partiesOf f) (recordsOf f) ≤ size → writeCall f size ≡ writes (copyFor f)
   write-fits size h = write-accepted size ∙ fits-in (copyFor f) size (omega (arith, copy-size f a))
 
   -- what the call wrote is the copy
   written-is : (size : ℕ) (c : List ℕ) → writeCall f size ≡ writes c → copyFor f ≡ c
   written-is size c e =
-      by-cases (decLt size (8 + 2 * partiesOf f + 5 * recordsOf f))
+      by-cases (decLt size (fileSize writtenEdition (partiesOf f) (recordsOf f)))
       (λ h. absurd (apart (sym (write-short size h) ∙ e)))
       (λ h. written (sym (write-fits size (omega arith)) ∙ e))
 
@@ -175,12 +176,12 @@ unfolding copyFor
 write-again f a size c e j =
     let k = write-copies f a size c e .file in
     let p : copyFor c ≡ c = ap (canonicalOf writtenEdition) (k .matter) ∙ written-is f a size c e in
-    let l : length c ≡ 8 + 2 * partiesOf c + 5 * recordsOf c = ap length (sym p) ∙ copy-size c (k .accepted) in
+    let l : length c ≡ fileSize writtenEdition (partiesOf c) (recordsOf c) = ap length (sym p) ∙ copy-size c (k .accepted) in
     (λ h. write-fits c (k .accepted) j (omega arith) ∙ ap writes p, λ h. write-short c (k .accepted) j (omega arith))
 
 -- the file's refusals, 1 to 8 and 15, and 14; no other
 pub write-refusals : (f : List ℕ) (size : ℕ) (x : Refusal) → writeCall f size ≡ refuses x → OfFile x ⊎ (x ≡ Output)
-unfolding writeCall writeIn
+unfolding writeCall writeIn copyFor
 write-refusals f size x e =
     by-check (checkOf f)
     (λ q. by-test (leb (length (copyFor f)) size) (λ t. absurd (apart (sym (rw (q, t) at e)))) (λ t. inr (refused (sym (rw (q, t) at e)))))
@@ -188,7 +189,7 @@ write-refusals f size x e =
 
 -- the same over the calls: what two calls wrote is equal exactly where the files say the same
 pub written-equal : (f g : List ℕ) → checkOf f ≡ check.Accepted → checkOf g ≡ check.Accepted → (j k : ℕ)
-    → 8 + 2 * partiesOf f + 5 * recordsOf f ≤ j → 8 + 2 * partiesOf g + 5 * recordsOf g ≤ k
+    → fileSize writtenEdition (partiesOf f) (recordsOf f) ≤ j → fileSize writtenEdition (partiesOf g) (recordsOf g) ≤ k
     → (writeCall f j ≡ writeCall g k) ↔ SameMatter f g
 written-equal f g a b j k h l = (
   λ e. copies-equal f g a b .0 (written (sym (write-fits f a j h) ∙ e ∙ write-fits g b k l)),

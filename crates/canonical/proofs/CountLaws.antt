@@ -1,4 +1,5 @@
--- How many records there are: kinds place by place, entries target by target, parties one after another. Each count grows by the piece at its place. Assumes nothing.
+-- How many records there are: kinds place by place, entries target by target, parties one after
+-- another. Each count grows by the piece at its place. Assumes nothing.
 use mathlib.Core.Path.{_≡_, refl, sym, ap, _∙_}
 use mathlib.Core.Bool.{Bool, true, false}
 use mathlib.Core.List.{List, [], _∷_, _++_, map}
@@ -17,17 +18,17 @@ use Rattle.lists.proofs.ListLaws.{up-length}
 use Rattle.lists.proofs.OrderLaws.{length-map}
 use Rattle.lists.proofs.Pointwise.{filter-append, filter-length, filter-take-in, filter-take-out, filter-same, flat-same}
 use Rattle.lists.proofs.Pieces.{up-at, flat-suc, flat-none, flat-most}
-use Rattle.masks.specs.Mask.{testBit}
-use Rattle.masks.specs.Table.{noRow, maskIn, maskAt}
+use Rattle.masks.specs.promises.Mask.{testBit}
+use Rattle.masks.specs.promises.Table.{noRow, maskIn, maskAt}
 use Rattle.masks.specs.declared.Row.{Row}
 use Rattle.masks.specs.declared.Table.{Table}
 use Rattle.rebac.specs.Matter.{Matter}
 use Rattle.house_layout.specs.Layout.{permitKind}
 use Rattle.house_layout.specs.Fields.{legalKind}
-use Rattle.house_layout.specs.Kinds.{bitOf}
+use Rattle.house_layout.specs.promises.Kinds.{bitOf}
 use Rattle.house_layout.specs.declared.header.Header.{Header}
 use Rattle.canonical.specs.Canonical.{Entry, entry, kindBytes, saysKind, pairEntries, entriesOf, entriesBelow, firstOf}
-use Rattle.canonical.specs.Masks.{matterIn, kindsIn}
+use Rattle.canonical.specs.promises.Masks.{matterIn, kindsIn}
 use Rattle.canonical.proofs.EntryLaws.{kinds-number, listed-kind}
 use Rattle.canonical.proofs.LayoutLaws.{first-step}
 
@@ -35,7 +36,9 @@ use Rattle.canonical.proofs.LayoutLaws.{first-step}
 pub kind-label : (labels place : ℕ) → place < labels → getD (kindBytes labels) place 0 ≡ place
 unfolding kindBytes range
 kind-label labels place h =
-    List·getD-append (upFrom 0 labels) (permitKind ∷ []) 0 place (omega (arith, up-length 0 labels)) ∙ up-at 0 labels place 0 h ∙ omega arith
+    List·getD-append (upFrom 0 labels) (permitKind ∷ []) 0 place (omega (arith, up-length 0 labels))
+    ∙ up-at 0 labels place 0 h
+    ∙ omega arith
 
 -- at the last place a permit's kind
 pub kind-permit : (labels : ℕ) → getD (kindBytes labels) labels 0 ≡ permitKind
@@ -60,31 +63,36 @@ module _ (labels mask : ℕ) where
   kinds-all place h = ap (filterBy (λ k. testBit mask (bitOf k))) (take-all place (kindBytes labels) (omega (arith, kinds-number labels)))
 
   module _ (place : ℕ) (h : place ≤ labels) where
-    pub kinds-more : testBit mask (bitOf (getD (kindBytes labels) place 0)) ≡ true → kindsTo labels mask (place + 1) ≡ kindsTo labels mask place ++ (getD (kindBytes labels) place 0 ∷ [])
+    pub kinds-more : testBit mask (bitOf (getD (kindBytes labels) place 0)) ≡ true
+        → kindsTo labels mask (place + 1) ≡ kindsTo labels mask place ++ (getD (kindBytes labels) place 0 ∷ [])
     unfolding kindsTo
     kinds-more t = filter-take-in (λ k. testBit mask (bitOf k)) (kindBytes labels) place 0 (omega (arith, kinds-number labels)) t
 
-    pub kinds-same : testBit mask (bitOf (getD (kindBytes labels) place 0)) ≡ false → kindsTo labels mask (place + 1) ≡ kindsTo labels mask place
+    pub kinds-same : testBit mask (bitOf (getD (kindBytes labels) place 0)) ≡ false
+        → kindsTo labels mask (place + 1) ≡ kindsTo labels mask place
     unfolding kindsTo
     kinds-same t = filter-take-out (λ k. testBit mask (bitOf k)) (kindBytes labels) place 0 (omega (arith, kinds-number labels)) t
 
   -- no more than there are kinds
-  pub kinds-few : length (kindsIn labels mask) ≤ labels + 1
+  pub kinds-bounded : length (kindsIn labels mask) ≤ labels + 1
   unfolding kindsIn
-  kinds-few = omega (arith, filter-length (λ k. testBit mask (bitOf k)) (kindBytes labels), kinds-number labels)
+  kinds-bounded = omega (arith, filter-length (λ k. testBit mask (bitOf k)) (kindBytes labels), kinds-number labels)
 
   pub kinds-most : (place : ℕ) → length (kindsTo labels mask place) ≤ length (kindsIn labels mask)
   unfolding kindsTo kindsIn
   kinds-most place =
       let p : ℕ → Bool = λ k. testBit mask (bitOf k) in
       let l : List ℕ = kindBytes labels in
-      let e : filterBy p (take place l) ++ filterBy p (drop place l) ≡ filterBy p l = sym (filter-append p (take place l) (drop place l)) ∙ ap (filterBy p) (take-append-drop place l) in
+      let e : filterBy p (take place l) ++ filterBy p (drop place l) ≡ filterBy p l =
+      sym (filter-append p (take place l) (drop place l)) ∙ ap (filterBy p) (take-append-drop place l) in
       omega (arith, ap length e, length-append (filterBy p (take place l)) (filterBy p (drop place l)))
 
   -- where the kind at a place is one, the kinds before it are not all
-  pub kinds-room : (place : ℕ) → place ≤ labels → testBit mask (bitOf (getD (kindBytes labels) place 0)) ≡ true → length (kindsTo labels mask place) < length (kindsIn labels mask)
+  pub kinds-room : (place : ℕ) → place ≤ labels → testBit mask (bitOf (getD (kindBytes labels) place 0)) ≡ true
+      → length (kindsTo labels mask place) < length (kindsIn labels mask)
   kinds-room place h t =
-      omega (arith, ap length (kinds-more place h t), length-append (kindsTo labels mask place) (getD (kindBytes labels) place 0 ∷ []), kinds-most (place + 1))
+      let kind : ℕ = getD (kindBytes labels) place 0 in
+      omega (arith, ap length (kinds-more place h t), length-append (kindsTo labels mask place) (kind ∷ []), kinds-most (place + 1))
 
 -- the masks say of a pair what its mask has
 module _ (h : Header) (k : Table) (u v : ℕ) where
@@ -94,7 +102,7 @@ module _ (h : Header) (k : Table) (u v : ℕ) where
 
   pair-kinds : pairEntries (matterIn h k) u v ≡ map (entry u v) (kindsIn (h .labels) (maskAt k u v))
   unfolding pairEntries kindsIn
-  pair-kinds = ap (map (entry u v)) (filter-same (saysKind (matterIn h k) u v) (λ b. testBit (maskAt k u v) (bitOf b)) (kindBytes (h .labels)) (λ b m. says-mask b))
+  pair-kinds = ap (map (entry u v)) (filter-same (saysKind (matterIn h k) u v) _ (kindBytes (h .labels)) (λ b m. says-mask b))
 
 -- a party's entries for the targets below v, by its row of masks
 unfoldable pub rowTo : ℕ → Row → ℕ → ℕ → List Entry
@@ -122,11 +130,16 @@ module _ (labels : ℕ) (row : Row) (u : ℕ) where
 -- all of them are the party's entries
 pub row-all : (h : Header) (k : Table) (u : ℕ) → rowTo (h .labels) (getD (k .rows) u noRow) u (h .parties) ≡ entriesOf (matterIn h k) u
 unfolding rowTo entriesOf
-row-all h k u = flat-same (λ x. map (entry u x) (kindsIn (h .labels) (maskAt k u x))) (pairEntries (matterIn h k) u) (range (h .parties)) (λ x m. sym (pair-kinds h k u x))
+row-all h k u =
+    flat-same (λ x. map (entry u x) (kindsIn (h .labels) (maskAt k u x))) (pairEntries (matterIn h k) u) (range (h .parties))
+    (λ x m. sym (pair-kinds h k u x))
 
 -- with the next target's they are no more than all
-pub row-room : (h : Header) (k : Table) (u v : ℕ) → v < h .parties → length (rowTo (h .labels) (getD (k .rows) u noRow) u (v + 1)) ≤ length (entriesOf (matterIn h k) u)
-row-room h k u v l = omega (arith, row-most (h .labels) (getD (k .rows) u noRow) u (v + 1) (h .parties) (omega arith), ap length (row-all h k u))
+pub row-room : (h : Header) (k : Table) (u v : ℕ) → v < h .parties
+    → length (rowTo (h .labels) (getD (k .rows) u noRow) u (v + 1)) ≤ length (entriesOf (matterIn h k) u)
+row-room h k u v l =
+    let most = row-most (h .labels) (getD (k .rows) u noRow) u (v + 1) (h .parties) (omega arith) in
+    omega (arith, most, ap length (row-all h k u))
 
 module _ (M : Matter) where
   -- the first numbers ascend by each party's records
@@ -142,7 +155,8 @@ module _ (M : Matter) where
   pub numbered-zero : (rest : List ℕ) → Numbered (1 ∷ rest) 1 0
   numbered-zero rest = record { last = sym first-zero; stored = λ x l. let e : x ≡ 0 = omega arith in rw e (sym first-zero) }
 
-  pub numbered-step : (numbers : List ℕ) (number u count : ℕ) → u + 1 < length numbers → count ≡ length (entriesOf M u) → Numbered numbers number u
+  pub numbered-step : (numbers : List ℕ) (number u count : ℕ) → u + 1 < length numbers
+      → count ≡ length (entriesOf M u) → Numbered numbers number u
       → Numbered (set numbers (u + 1) (number + count)) (number + count) (u + 1)
   numbered-step numbers number u count h e w =
       let s : u + 1 ≡ suc u = add-one u in

@@ -1,8 +1,10 @@
--- What the entries of a matter are: the kinds that it says, each once, by target and then by kind byte; how many there can be. Assumes nothing.
+-- What the entries of a matter are: the kinds that it says, each once, by target and
+-- then by kind byte; how many there can be. Assumes nothing.
 use mathlib.Core.Path.{_≡_, refl, ap, _∙_}
 use mathlib.Core.Logic.{⊎-elim}
-use mathlib.Core.Bool.{true}
-use mathlib.Core.List.{[], _∷_, List·Memᴰ, List·Memᴰ·head, List·Memᴰ·not-nil, List·Memᴰ·eq-of-singleton, List·Memᴰ·append-cases, Memᴰ·append-left, Memᴰ·append-right}
+use mathlib.Core.Bool.{true, false}
+use mathlib.Core.List.{List, [], _∷_, List·Memᴰ, List·Memᴰ·head, List·Memᴰ·not-nil, List·Memᴰ·eq-of-singleton}
+use mathlib.Core.List.{Memᴰ·append-left, Memᴰ·append-right}
 use Prim.Native.Nat.{ℕ, _+_, _*_, _-_, _≤_, _<_}
 use native.Mathlib.Omega.{arith}
 use native.Mathlib.Nat.{mul-le-mul}
@@ -11,7 +13,7 @@ use lib.ListN.{length, length-append}
 use borrow.Author.Tests.{lt-ltb, le-ltb, eq-eqb, ne-eqb}
 use Rattle.lists.specs.Lists.{filterBy, range}
 use Rattle.lists.specs.Order.{Ascending, Distinct}
-use Rattle.lists.proofs.Cases.{by-test}
+use Rattle.lists.proofs.Cases.{by-test, by-last}
 use Rattle.lists.proofs.ListLaws.{filter-in, filter-out, flat-in, flat-out, map-in, map-out, range-in, range-out, up-length}
 use Rattle.lists.proofs.OrderLaws.{ascending-append, ascending-filter, ascending-distinct, range-ascending, rows-ascending, length-map}
 use Rattle.lists.proofs.Pieces.{flat-bound, flat-skip}
@@ -36,10 +38,9 @@ kind-listed labels k e =
 pub listed-kind : (labels k : ℕ) → List·Memᴰ k (kindBytes labels) → legalKind labels k ≡ true
 unfolding kindBytes
 listed-kind labels k m =
-    ⊎-elim
-    (λ (n : List·Memᴰ k (range labels)). label-legal labels k (range-out labels n))
-    (λ (n : List·Memᴰ k (permitKind ∷ [])). rw (List·Memᴰ·eq-of-singleton n) (permit-legal labels))
-    (List·Memᴰ·append-cases (range labels) m)
+    by-last (range labels) m
+    (λ n. label-legal labels k (range-out labels n))
+    (λ e. rw e (permit-legal labels))
 
 pub kinds-ascending : (labels : ℕ) → labels ≤ 255 → Ascending ltb (kindBytes labels)
 unfolding kindBytes
@@ -60,6 +61,10 @@ pub says-permit : (M : Matter) (u v : ℕ) → saysKind M u v permitKind ≡ M .
 unfolding saysKind
 says-permit M u v = refl
 
+-- the kinds that the matter says of u and v
+abbrev kindsSaid : Matter → ℕ → ℕ → List ℕ
+kindsSaid M u v = filterBy (saysKind M u v) (kindBytes (M .labels))
+
 -- an entry of party u
 pub record Says (M : Matter) (u : ℕ) (e : Entry) : Type 0 where
   pub owner : e .owner ≡ u
@@ -68,46 +73,58 @@ pub record Says (M : Matter) (u : ℕ) (e : Entry) : Type 0 where
   pub said : saysKind M u (e .target) (e .kind) ≡ true
 
 module _ (M : Matter) (u : ℕ) where
-  pub entry-in : (v k : ℕ) → v < M .parties → legalKind (M .labels) k ≡ true → saysKind M u v k ≡ true → List·Memᴰ (entry u v k) (entriesOf M u)
+  pub entry-in : (v k : ℕ) → v < M .parties → legalKind (M .labels) k ≡ true
+      → saysKind M u v k ≡ true → List·Memᴰ (entry u v k) (entriesOf M u)
   unfolding entriesOf pairEntries
   entry-in v k h l s =
       flat-in (pairEntries M u) (range (M .parties)) (range-in (M .parties) v h)
-      (map-in (entry u v) (filterBy (saysKind M u v) (kindBytes (M .labels))) (filter-in (saysKind M u v) (kindBytes (M .labels)) (kind-listed (M .labels) k l) s))
+      (map-in (entry u v) (kindsSaid M u v) (filter-in (saysKind M u v) (kindBytes (M .labels)) (kind-listed (M .labels) k l) s))
 
   pub entry-out : (e : Entry) → List·Memᴰ e (entriesOf M u) → Says M u e
   unfolding entriesOf pairEntries
   entry-out e m =
       let r = flat-out (pairEntries M u) (range (M .parties)) m in
-      let t = map-out (entry u (r .0)) (filterBy (saysKind M u (r .0)) (kindBytes (M .labels))) (r .2) in
+      let t = map-out (entry u (r .0)) (kindsSaid M u (r .0)) (r .2) in
       let q = filter-out (saysKind M u (r .0)) (kindBytes (M .labels)) (t .1) in
-      rw (t .2) (record { owner = refl; target = range-out (M .parties) (r .1); legal = listed-kind (M .labels) (t .0) (q .0); said = q .1 })
+      rw (t .2) (record {
+        owner = refl;
+        target = range-out (M .parties) (r .1);
+        legal = listed-kind (M .labels) (t .0) (q .0);
+        said = q .1;
+      })
 
   pub entries-ascending : M .labels ≤ 255 → Ascending entryBefore (entriesOf M u)
   unfolding entriesOf pairEntries
   entries-ascending h =
-      rows-ascending entryBefore (entry u) (λ a b x y l. first-lower a b (ltb x y) l) (λ a x y l. first-same a a (ltb x y) refl (lt-ltb x y l))
-      (λ v. filterBy (saysKind M u v) (kindBytes (M .labels))) (λ v. ascending-filter ltb (saysKind M u v) (kindBytes (M .labels)) (kinds-ascending (M .labels) h))
+      rows-ascending entryBefore (entry u)
+      (λ a b x y l. first-lower a b (ltb x y) l)
+      (λ a x y l. first-same a a (ltb x y) refl (lt-ltb x y l))
+      (kindsSaid M u) (λ v. ascending-filter ltb (saysKind M u v) (kindBytes (M .labels)) (kinds-ascending (M .labels) h))
       (range (M .parties)) (range-ascending (M .parties))
 
   pub entries-distinct : M .labels ≤ 255 → Distinct (entriesOf M u)
   entries-distinct h =
       ascending-distinct entryBefore
-      (λ e. rw (le-ltb (e .target) (e .target) (omega arith), eq-eqb (e .target) (e .target) refl, le-ltb (e .kind) (e .kind) (omega arith)))
+      (λ e.
+      let same : eqb (e .target) (e .target) ≡ true = eq-eqb (e .target) (e .target) refl in
+      rw (le-ltb (e .target) (e .target) (omega arith), same, le-ltb (e .kind) (e .kind) (omega arith)))
       (entriesOf M u) (entries-ascending h)
 
 -- how many there can be, by the numbers of parties and labels alone
 module _ (M : Matter) where
-  pair-few : (u v : ℕ) → length (pairEntries M u v) ≤ M .labels + 1
+  pair-bounded : (u v : ℕ) → length (pairEntries M u v) ≤ M .labels + 1
   unfolding pairEntries
-  pair-few u v =
-      omega (arith, length-map (entry u v) (filterBy (saysKind M u v) (kindBytes (M .labels))), filter-length (saysKind M u v) (kindBytes (M .labels)), kinds-number (M .labels))
+  pair-bounded u v =
+      let bounded = filter-length (saysKind M u v) (kindBytes (M .labels)) in
+      omega (arith, length-map (entry u v) (kindsSaid M u v), bounded, kinds-number (M .labels))
 
   -- 9,216 = 32 × 32 × 9
-  pub count-few : M .parties ≤ 32 → M .labels ≤ 8 → countOf M ≤ 9216
+  pub count-bounded : M .parties ≤ 32 → M .labels ≤ 8 → countOf M ≤ 9216
   unfolding entriesBelow entriesOf
-  count-few n l =
+  count-bounded n l =
       let c : ℕ = M .parties * (M .labels + 1) in
-      let b : countOf M ≤ M .parties * c = flat-bound (entriesOf M) c (M .parties) (λ u h. flat-bound (pairEntries M u) (M .labels + 1) (M .parties) (λ v g. pair-few u v)) in
+      let b : countOf M ≤ M .parties * c = flat-bound (entriesOf M) c (M .parties)
+      (λ u h. flat-bound (pairEntries M u) (M .labels + 1) (M .parties) (λ v g. pair-bounded u v)) in
       let d : c ≤ 288 = mul-le-mul {n₂ = 32} {m₂ = 9} n (omega arith) in
       let e : M .parties * c ≤ 9216 = mul-le-mul {n₂ = 32} {m₂ = 288} n d in
       omega arith
@@ -121,17 +138,20 @@ module _ (M : Matter) (i : InLimits M) where
   pair-none : (u : ℕ) → length (pairEntries M u u) ≡ 0
   unfolding pairEntries
   pair-none u =
-      length-map (entry u u) (filterBy (saysKind M u u) (kindBytes (M .labels)))
-      ∙ ap length (filter-none (saysKind M u u) (kindBytes (M .labels)) (λ k m. by-test (saysKind M u u k) (λ e. absurd (says-pair u u k e .different refl)) (λ e. e)))
+      let none : (k : ℕ) → saysKind M u u k ≡ false =
+      λ k. by-test (saysKind M u u k) (λ e. absurd (says-pair u u k e .different refl)) (λ e. e) in
+      length-map (entry u u) (kindsSaid M u u)
+      ∙ ap length (filter-none (saysKind M u u) (kindBytes (M .labels)) (λ k m. none k))
 
   -- at most n (n - 1) (L + 1) entries
   pub entries-most : countOf M ≤ M .parties * ((M .parties - 1) * (M .labels + 1))
   unfolding entriesBelow entriesOf
   entries-most =
-      flat-bound (entriesOf M) ((M .parties - 1) * (M .labels + 1)) (M .parties) (λ u h. flat-skip (pairEntries M u) (M .labels + 1) (M .parties) u (λ v l. pair-few M u v) h (pair-none u))
+      flat-bound (entriesOf M) ((M .parties - 1) * (M .labels + 1)) (M .parties)
+      (λ u h. flat-skip (pairEntries M u) (M .labels + 1) (M .parties) u (λ v l. pair-bounded M u v) h (pair-none u))
 
-  pub entries-few : countOf M ≤ 8928
-  entries-few =
+  pub entries-bounded : countOf M ≤ 8928
+  entries-bounded =
       let n : M .parties ≤ 32 = i .limits .parties .1 in
       let l : M .labels ≤ 8 = i .limits .labels .1 in
       let a : (M .parties - 1) * (M .labels + 1) ≤ 279 = mul-le-mul {n₂ = 31} {m₂ = 9} (omega arith) (omega arith) in

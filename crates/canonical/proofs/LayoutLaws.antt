@@ -21,8 +21,8 @@ use Rattle.house_layout.proofs.LayoutLaws.{size-least}
 use Rattle.house_layout.specs.declared.header.Header.{Header}
 use Rattle.house_layout.specs.declared.record.Record.{Record}
 use Rattle.house_layout.specs.declared.record.OwnerByte.the-variants.{Missing, Party}
-use Rattle.canonical.specs.Canonical.{Entry, entry, entriesOf, entriesBelow, countOf, firstOf, link, recordFor, linked, recordsFor}
-use Rattle.canonical.specs.Canonical.{headerBytes, headsBy, recordBytes, headerFor, canonicalOf}
+use Rattle.canonical.specs.Canonical.{Entry, entry, entriesOf, entriesBelow, countOf, firstOf, link, recordFor, chainRecords}
+use Rattle.canonical.specs.Canonical.{recordsFor, headerBytes, headsBy, recordBytes, headerFor, canonicalOf}
 
 abbrev pub noEntry : Entry
 noEntry = entry 0 0 0
@@ -32,21 +32,21 @@ noRecord = record { target = 0; kind = 0; next = 0; owner = Missing }
 
 -- a chain's records: as many as its entries, and each with its entry's target, kind and owner
 module _ (edition end : ℕ) where
-  pub linked-length : (r : ℕ) (es : List Entry) → length (linked edition end r es) ≡ length es
-  unfolding linked
+  pub linked-length : (r : ℕ) (es : List Entry) → length (chainRecords edition end r es) ≡ length es
+  unfolding chainRecords
   linked-length r [] = refl
   linked-length r (e ∷ es) = ap suc (linked-length (suc r) es)
 
   pub linked-at : (r : ℕ) (es : List Entry) (i : ℕ) → i < length es
-      → getD (linked edition end r es) i noRecord ≡ recordFor edition end (r + i) (getD es i noEntry)
-  unfolding linked
+      → getD (chainRecords edition end r es) i noRecord ≡ recordFor edition end (r + i) (getD es i noEntry)
+  unfolding chainRecords
   linked-at r [] i h = absurd (omega arith)
   linked-at r (e ∷ es) zero h = let z : r + 0 ≡ r = omega arith in rw z
   linked-at r (e ∷ es) (suc i) h = let z : suc r + i ≡ r + suc i = omega arith in linked-at (suc r) es i (omega arith) ∙ rw z
 
-  pub linked-out : (r : ℕ) (es : List Entry) (x : Record) → List·Memᴰ x (linked edition end r es)
+  pub linked-out : (r : ℕ) (es : List Entry) (x : Record) → List·Memᴰ x (chainRecords edition end r es)
       → (k : ℕ) × ((e : Entry) × (List·Memᴰ e es × (x ≡ recordFor edition end k e)))
-  unfolding linked
+  unfolding chainRecords
   linked-out r [] x m = absurd (List·Memᴰ·not-nil m)
   linked-out r (e ∷ es) x m =
       by-mem m
@@ -58,7 +58,7 @@ module _ (edition end : ℕ) where
   unfolding recordBytes u16Bytes recordSize ownerIn
   record-size r e = by-test (eqb edition 1) (λ q. rw q) (λ q. rw q)
 
-  pub linked-sized : (r : ℕ) (es : List Entry) → Sized recordBytes (recordSize edition) (linked edition end r es)
+  pub linked-sized : (r : ℕ) (es : List Entry) → Sized recordBytes (recordSize edition) (chainRecords edition end r es)
   linked-sized r es x m = let o = linked-out r es x m in rw (o .1 .1 .1) (record-size (o .0) (o .1 .0))
 
 pub header-size : (h : Header) → length (headerBytes h) ≡ 8
@@ -91,7 +91,7 @@ module _ (M : Matter) where
   first-order u v h = omega (arith, flat-most (entriesOf M) u v h)
 
 module _ (edition : ℕ) (M : Matter) where
-  -- the three parts
+  -- the parts behind the header: the heads, and the records
   heads : List ℕ
   heads = headsBy (firstOf M) (M .parties)
 

@@ -19,8 +19,8 @@ use Rattle.house_layout.specs.declared.record.Record.{Record}
 use Rattle.house_layout.proofs.RecordLaws.{label-legal, permit-legal}
 use Rattle.house_file.specs.Check.{says}
 use Rattle.house_file.specs.Meaning.{chainOf, recorded, isEdge, isPermitted}
-use Rattle.house_file.proofs.WalkLaws.{says-target}
-use Rattle.graph.specs.Archive.{matterOf}
+use Rattle.house_file.proofs.FollowLaws.{says-target}
+use Rattle.graph.specs.FileMatter.{matterOf}
 use Rattle.canonical.specs.Canonical.{Entry, saysKind, entriesOf, firstOf, canonicalOf}
 use Rattle.canonical.specs.Shape.{InLimits}
 use Rattle.canonical.proofs.LayoutLaws.{noEntry, party-record}

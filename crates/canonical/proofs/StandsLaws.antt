@@ -18,7 +18,7 @@ use Rattle.house_layout.specs.declared.reply.Refusal.the-variants.{Output}
 use Rattle.canonical.specs.Canonical.{Entry, entry, kindBytes, saysKind, pairEntries, entriesOf, entriesBelow, countOf, firstOf}
 use Rattle.canonical.specs.Canonical.{recordsFor, headerBytes, headsBy, headerFor, canonicalOf}
 use Rattle.canonical.specs.Calls.{refuses, writes, writeIn}
-use Rattle.canonical.specs.Masks.{matterIn, FirstsOf, Stands}
+use Rattle.canonical.specs.promises.Masks.{matterIn, FirstsOf, Stands}
 use Rattle.canonical.specs.declared.count.Firsts.{Firsts}
 use Rattle.canonical.proofs.CountLaws.{says-mask}
 use Rattle.canonical.proofs.EntryLaws.{listed-kind}

@@ -24,10 +24,11 @@ use Rattle.house_layout.specs.declared.reply.Check.the-variants.{Accepted}
 use Rattle.house_layout.specs.Fields.{legalKind}
 use Rattle.house_layout.proofs.RecordLaws.{kind-legal}
 use Rattle.house_file.specs.Check.{checkOf}
-use Rattle.house_file.specs.Meaning.{chainOf, recorded, Linked, WellFormed}
+use Rattle.house_file.specs.Meaning.{chainOf, recorded, IsChain, RecordsRight, WellFormed}
+use Rattle.house_file.proofs.LinkedLaws.{records-right}
 use Rattle.house_file.proofs.WellFormedLaws.{accepted-iff-well-formed}
 use Rattle.house_file.proofs.OwnerLaws.{owner-said}
-use Rattle.graph.specs.Archive.{matterOf}
+use Rattle.graph.specs.FileMatter.{matterOf}
 use Rattle.canonical.specs.Canonical.{Entry, saysKind, entriesOf, entriesBelow, firstOf, link, canonicalOf, recordFor}
 use Rattle.canonical.specs.Shape.{entryBefore, entryIn, InShape}
 use Rattle.canonical.proofs.LayoutLaws.{noEntry, first-step, party-record, canonical-edition, canonical-zero}
@@ -44,12 +45,12 @@ entry-one-way : (e g : Entry) → entryBefore e g ≡ true → entryBefore g e �
 entry-one-way e g h k = pair-one-way (pair (e .target) (e .kind)) (pair (g .target) (g .kind)) h k
 
 -- a chain of consecutive numbers: what names its first record, and what each record names
-head-named : (f : List ℕ) (k a x : ℕ) → Linked f x (upFrom a k) → x ≡ link (a + k) a
+head-named : (f : List ℕ) (k a x : ℕ) → IsChain f x (upFrom a k) → x ≡ link (a + k) a
 unfolding upFrom
 head-named f zero a x h = h ∙ sym (link-past (a + 0) a (omega arith))
 head-named f (suc k) a x h = h .0 ∙ sym (link-inside (a + suc k) a (omega arith))
 
-next-named : (f : List ℕ) (k a x i : ℕ) → i < k → Linked f x (upFrom a k) → recordOf f (a + i) .next ≡ link (a + k) (suc (a + i))
+next-named : (f : List ℕ) (k a x i : ℕ) → i < k → IsChain f x (upFrom a k) → recordOf f (a + i) .next ≡ link (a + k) (suc (a + i))
 unfolding upFrom
 next-named f zero a x i g h = absurd (omega arith)
 next-named f (suc k) a x zero g h =
@@ -79,6 +80,9 @@ module _ (f : List ℕ) (a : checkOf f ≡ Accepted) (s : InShape f) where
   w : WellFormed f
   w = accepted-iff-well-formed f .0 a
 
+  right : RecordsRight f (chainOf f)
+  right = records-right f w
+
   -- M says what the file records
   said-recorded : (u v k : ℕ) → legalKind (labelsOf f) k ≡ true → saysKind M u v k ≡ recorded f u v k
   unfolding M
@@ -88,9 +92,9 @@ module _ (f : List ℕ) (a : checkOf f ≡ Accepted) (s : InShape f) where
     chain-said : (e : Entry) → List·Memᴰ e (map (entryIn f u) (chainOf f u)) → List·Memᴰ e (entriesOf M u)
     chain-said e m =
         let r = map-out (entryIn f u) (chainOf f u) m in
-        let l : legalKind (labelsOf f) (recordOf f (r .0) .kind) ≡ true = kind-legal (labelsOf f) _ (w .kind u (r .0) h (r .1)) in
+        let l : legalKind (labelsOf f) (recordOf f (r .0) .kind) ≡ true = kind-legal (labelsOf f) _ (right .kind u (r .0) h (r .1)) in
         rw (r .2)
-        (entry-in M u _ _ (rw parties-of (w .target u (r .0) h (r .1) .0))
+        (entry-in M u _ _ (rw parties-of (right .target u (r .0) h (r .1) .0))
         (rw labels-of l) (said-recorded u _ _ l ∙ recorded-in f u (r .0) h (r .1)))
 
     said-chain : (e : Entry) → List·Memᴰ e (entriesOf M u) → List·Memᴰ e (map (entryIn f u) (chainOf f u))
@@ -123,8 +127,8 @@ module _ (f : List ℕ) (a : checkOf f ≡ Accepted) (s : InShape f) where
   chain-numbers : (u : ℕ) → u < partiesOf f → chainOf f u ≡ upFrom (firstOf M u) (length (entriesOf M u))
   chain-numbers u h = s .numbered u h ∙ rw (chain-length u h, chains-below u (omega arith))
 
-  chain-linked : (u : ℕ) → u < partiesOf f → Linked f (headOf f u) (upFrom (firstOf M u) (length (entriesOf M u)))
-  chain-linked u h = rw (chain-numbers u h) at (w .linked u h)
+  chain-linked : (u : ℕ) → u < partiesOf f → IsChain f (headOf f u) (upFrom (firstOf M u) (length (entriesOf M u)))
+  chain-linked u h = rw (chain-numbers u h) at (right .linked u h)
 
   same-head : (u : ℕ) → u < partiesOf f → headOf f u ≡ headOf (canonicalOf edition M) u
   same-head u h =

@@ -11,7 +11,7 @@ use Rattle.lists.proofs.OrderLaws.{length-map}
 use Rattle.lists.proofs.Pointwise.{map-append}
 use Rattle.lists.proofs.Pieces.{flat-append, flat-one, flat-suc, pieces-length}
 use Rattle.fields.specs.Numbers.{u16Bytes}
-use Rattle.fields.specs.Writing.{put}
+use Rattle.fields.specs.promises.Writing.{put}
 use Rattle.fields.proofs.PutLaws.{put-two, put-three, then-put, then-one, then-three, put-put}
 use Rattle.rebac.specs.Matter.{Matter}
 use Rattle.house_layout.specs.Layout.{recordSize, ownerIn}
@@ -19,9 +19,9 @@ use Rattle.house_layout.specs.declared.header.Header.{Header}
 use Rattle.house_layout.specs.declared.record.Record.{Record}
 use Rattle.house_layout.specs.declared.record.OwnerByte.{OwnerByte}
 use Rattle.house_layout.specs.declared.record.OwnerByte.the-variants.{Missing, Party}
-use Rattle.canonical.specs.Canonical.{Entry, entry, entriesOf, entriesBelow, firstOf, link, linked, recordsFor}
+use Rattle.canonical.specs.Canonical.{Entry, entry, entriesOf, entriesBelow, firstOf, link, chainRecords, recordsFor}
 use Rattle.canonical.specs.Canonical.{headerBytes, headsBy, ownerBytes, recordBytes, headerFor, canonicalOf, writtenEdition}
-use Rattle.canonical.specs.Masks.{chainBytes, pairBytes, numbersIn, FirstsOf}
+use Rattle.canonical.specs.promises.Masks.{chainBytes, pairBytes, numbersIn, FirstsOf}
 use Rattle.canonical.specs.declared.count.Firsts.{Firsts}
 use Rattle.canonical.proofs.LayoutLaws.{header-size, heads-size, heads-same}
 use Rattle.canonical.proofs.LayoutLaws.{linked-length, linked-sized, records-below, records-sized}
@@ -75,8 +75,8 @@ header-put b out h l e =
 
 -- records that follow others of the chain are numbered on
 linked-append : (edition end r : ℕ) (es fs : List Entry)
-    → linked edition end r (es ++ fs) ≡ linked edition end r es ++ linked edition end (r + length es) fs
-unfolding linked
+    → chainRecords edition end r (es ++ fs) ≡ chainRecords edition end r es ++ chainRecords edition end (r + length es) fs
+unfolding chainRecords
 linked-append edition end r [] fs = let z : r + 0 ≡ r = omega arith in rw z
 linked-append edition end r (e ∷ es) fs =
     let z : r + suc (length es) ≡ suc r + length es = omega arith in
@@ -84,19 +84,19 @@ linked-append edition end r (e ∷ es) fs =
 
 module _ (end : ℕ) where
   pub chain-none : (r : ℕ) → chainBytes end r [] ≡ []
-  unfolding chainBytes linked flatMap
+  unfolding chainBytes chainRecords flatMap
   chain-none r = refl
 
   chain-append : (r : ℕ) (es fs : List Entry) → chainBytes end r (es ++ fs) ≡ chainBytes end r es ++ chainBytes end (r + length es) fs
   unfolding chainBytes
   chain-append r es fs =
       ap (flatMap recordBytes) (linked-append writtenEdition end r es fs)
-      ∙ flat-append recordBytes (linked writtenEdition end r es) (linked writtenEdition end (r + length es) fs)
+      ∙ flat-append recordBytes (chainRecords writtenEdition end r es) (chainRecords writtenEdition end (r + length es) fs)
 
   pub chain-length : (r : ℕ) (es : List Entry) → length (chainBytes end r es) ≡ 5 * length es
   unfolding chainBytes recordSize
   chain-length r es =
-      pieces-length recordBytes (recordSize writtenEdition) (linked writtenEdition end r es) (linked-sized writtenEdition end r es)
+      pieces-length recordBytes (recordSize writtenEdition) (chainRecords writtenEdition end r es) (linked-sized writtenEdition end r es)
       ∙ ap (λ (k : ℕ). 5 * k) (linked-length writtenEdition end r es)
 
   -- one pair's records
@@ -111,7 +111,7 @@ module _ (end : ℕ) where
   pair-more : (r u v : ℕ) (ks : List ℕ) (k : ℕ)
       → pairBytes end r u v (ks ++ (k ∷ []))
       ≡ pairBytes end r u v ks ++ recordBytes (record { target = v; kind = k; next = link end (suc (r + length ks)); owner = Party u })
-  unfolding pairBytes chainBytes linked ownerIn
+  unfolding pairBytes chainBytes chainRecords ownerIn
   pair-more r u v ks k =
       let x : Record = record { target = v; kind = k; next = link end (suc (r + length ks)); owner = Party u } in
       ap (chainBytes end r) (map-append (entry u v) ks (k ∷ []))

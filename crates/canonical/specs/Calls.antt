@@ -4,25 +4,25 @@ use Prim.Native.Nat.{ℕ}
 use mathlib.Core.List.{List, [], _∷_, _++_}
 use lib.ListN.{length, drop}
 use lib.Dec.{leb}
-use Rattle.house_file.specs.Check.{checkOf}
+use Rattle.rebac.specs.Matter.{Matter}
 use Rattle.house_layout.specs.Reply.{Said, refusal, values, numberOf}
 use Rattle.house_layout.specs.declared.reply.Refusal.{Refusal}
 use Rattle.house_layout.specs.declared.reply.Refusal.the-variants.{Output}
-use Rattle.graph.specs.Archive.{matterOf}
-use Rattle.graph.specs.Refusals.{unless, afterCheck}
+use Rattle.graph.specs.FileMatter.{matterOf}
+use Rattle.graph.specs.Refusals.{unless, overMatter}
 use Rattle.canonical.specs.Canonical.{canonicalOf, writtenEdition}
 use Rattle.canonical.specs.declared.reply.FileReply.{FileReply}
 use Rattle.canonical.specs.declared.reply.FileReply.the-variants.{Refused, Wrote}
 
 -- a refusal, or the file that is written
-pub data Answer : Type 0 where
-  refuses : Refusal → Answer
-  writes : List ℕ → Answer
+pub data FileAnswer : Type 0 where
+  refuses : Refusal → FileAnswer
+  writes : List ℕ → FileAnswer
 
 -- "It returns the length, as do later calls that write a file"
-abbrev pub replyOf : Answer → FileReply
-replyOf (refuses x) = Refused x
-replyOf (writes l) = Wrote (length l)
+abbrev pub fileReply : FileAnswer → FileReply
+fileReply (refuses x) = Refused x
+fileReply (writes l) = Wrote (length l)
 
 -- the reply in 01's number and values
 abbrev pub saidFile : FileReply → Said
@@ -30,18 +30,21 @@ saidFile (Refused x) = refusal (numberOf x)
 saidFile (Wrote k) = values (k ∷ [])
 
 -- the output then: the file stands at its start, every other byte is kept
-abbrev pub outputOf : Answer → List ℕ → List ℕ
-outputOf (refuses x) old = old
-outputOf (writes l) old = l ++ drop (length l) old
+abbrev pub fileOutput : FileAnswer → List ℕ → List ℕ
+fileOutput (refuses x) old = old
+fileOutput (writes l) old = l ++ drop (length l) old
 
 -- "a short output is 14, checked last"
-unfoldable pub writeIn : List ℕ → ℕ → Answer
+unfoldable pub writeIn : List ℕ → ℕ → FileAnswer
 writeIn file size = unless refuses (leb (length file) size) Output (writes file)
 
--- the copy of an accepted file
+-- what is written for a matter, and for an accepted file
+abbrev pub copyIn : Matter → List ℕ
+copyIn M = canonicalOf writtenEdition M
+
 unfoldable pub copyFor : List ℕ → List ℕ
-copyFor f = canonicalOf writtenEdition (matterOf f)
+copyFor f = copyIn (matterOf f)
 
 -- a file's copy, written to an output of this size
-unfoldable pub writeCall : List ℕ → ℕ → Answer
-writeCall f size = afterCheck refuses (checkOf f) (writeIn (copyFor f) size)
+unfoldable pub writeCall : List ℕ → ℕ → FileAnswer
+writeCall f size = overMatter refuses f (λ M. writeIn (copyIn M) size)

@@ -60,13 +60,13 @@ abbrev pub recordFor : ℕ → ℕ → ℕ → Entry → Record
 recordFor edition end r e = record { target = e .target; kind = e .kind; next = link end (suc r); owner = ownerIn edition (e .owner) }
 
 -- a chain's records, numbered from r on
-unfoldable pub linked : ℕ → ℕ → ℕ → List Entry → List Record
-linked edition end r [] = []
-linked edition end r (e ∷ es) = recordFor edition end r e ∷ linked edition end (suc r) es
+unfoldable pub chainRecords : ℕ → ℕ → ℕ → List Entry → List Record
+chainRecords edition end r [] = []
+chainRecords edition end r (e ∷ es) = recordFor edition end r e ∷ chainRecords edition end (suc r) es
 
 -- party u's records
 unfoldable pub recordsFor : ℕ → Matter → ℕ → List Record
-recordsFor edition M u = linked edition (firstOf M (suc u)) (firstOf M u) (entriesOf M u)
+recordsFor edition M u = chainRecords edition (firstOf M (suc u)) (firstOf M u) (entriesOf M u)
 
 -- the bytes of a header (01, "The house file"), of the heads of n parties whose first records are so numbered, and of a record
 unfoldable pub headerBytes : Header → List ℕ

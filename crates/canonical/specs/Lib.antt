@@ -1,4 +1,4 @@
 pub mod Canonical
 pub mod Calls
 pub mod Shape
-pub mod Masks
+pub mod promises

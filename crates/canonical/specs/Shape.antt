@@ -1,5 +1,5 @@
 -- What the writer is held to, in plain terms: matters in 01's limits, the order of a file's records, and files that say the same.
-use Prim.Native.Nat.{ℕ, suc, _+_, _*_, _<_}
+use Prim.Native.Nat.{ℕ, suc, _<_}
 use mathlib.Core.Path.{_≡_}
 use mathlib.Core.Bool.{Bool, true, _&&_, _||_}
 use mathlib.Core.List.{List, map}
@@ -8,11 +8,11 @@ use lib.Dec.{eqb, ltb}
 use Rattle.lists.specs.Lists.{flatMap, range, upFrom}
 use Rattle.lists.specs.Order.{Ascending}
 use Rattle.rebac.specs.Matter.{Matter, pair, IsPair}
-use Rattle.house_layout.specs.Layout.{editionOf, partiesOf, labelsOf, languageOf, longestOf, recordsOf, recordOf}
+use Rattle.house_layout.specs.Layout.{editionOf, partiesOf, labelsOf, languageOf, longestOf, recordsOf, recordOf, fileSize}
 use Rattle.house_file.specs.Meaning.{chainOf, isEdge, isPermitted}
 use Rattle.house_file.specs.Check.{checkOf}
 use Rattle.house_layout.specs.declared.reply.Check.the-variants.{Accepted}
-use Rattle.graph.specs.Archive.{Limits, matterOf}
+use Rattle.graph.specs.FileMatter.{Limits, matterOf}
 use Rattle.canonical.specs.Canonical.{Entry, entry, writtenEdition}
 
 -- a matter that a file can have: 01's limits, and relations and permits only between two different parties, of labels below L
@@ -55,4 +55,4 @@ pub record FileFor (edition : ℕ) (M : Matter) (c : List ℕ) : Type 0 where
 -- c is such a file for f's matter, in the edition that is written; its length follows from f's numbers
 pub record CopyOf (f c : List ℕ) : Type 0 where
   pub file : FileFor writtenEdition (matterOf f) c
-  pub size : length c ≡ 8 + 2 * partiesOf f + 5 * recordsOf f
+  pub size : length c ≡ fileSize writtenEdition (partiesOf f) (recordsOf f)

@@ -2,11 +2,13 @@
 ghost use mathlib.Core.Path.{_≡_};
 ghost use Prim.Native.Nat.{_≤_, _<_};
 ghost use lib.ListN.{length, getD};
-ghost use Rattle.masks.specs.Mask.{testBit};
-ghost use Rattle.house_layout.specs.Kinds.{bitOf};
+ghost use Rattle.limits.specs.Limits.{mostParties, mostLabels};
+ghost use Rattle.masks.specs.promises.Mask.{testBit};
+ghost use Rattle.house_layout.specs.promises.Kinds.{bitOf};
 ghost use Rattle.canonical.specs.Canonical.{kindBytes, entriesOf};
-ghost use Rattle.canonical.specs.Masks.{matterIn, kindsIn, FirstsOf};
+ghost use Rattle.canonical.specs.promises.Masks.{matterIn, kindsIn, FirstsOf, PartyLimits};
 use house_layout::Header;
+use house_layout::PERMIT_KIND;
 use house_layout::bit_of;
 use masks::Table;
 
@@ -17,18 +19,18 @@ pub struct Firsts {
 
 // The kind byte at a place of the kinds in order: the labels, then a permit's.
 pub fn kind_at(labels: usize, place: usize) -> usize
-    requires { ⌜ (labels ≤ 8) × (place ≤ labels) ⌝ }
+    requires { ⌜ (labels ≤ mostLabels) × (place ≤ labels) ⌝ }
     ensures { λ r. ⌜ (r ≡ getD (kindBytes labels) place 0) × (r < 256) ⌝ }
 {
     if place < labels {
         return place;
     }
-    255
+    PERMIT_KIND
 }
 
 // Whether a mask has the kind at a place.
 pub fn says_at(labels: usize, mask: u32, place: usize) -> bool
-    requires { ⌜ (labels ≤ 8) × (place ≤ labels) ⌝ }
+    requires { ⌜ (labels ≤ mostLabels) × (place ≤ labels) ⌝ }
     ensures { λ r. ⌜ r ≡ testBit mask (bitOf (getD (kindBytes labels) place 0)) ⌝ }
 {
     masks::has(mask, bit_of(kind_at(labels, place)))
@@ -36,7 +38,7 @@ pub fn says_at(labels: usize, mask: u32, place: usize) -> bool
 
 // How many kinds a mask has.
 fn count_kinds(labels: usize, mask: u32) -> usize
-    requires { ⌜ labels ≤ 8 ⌝ }
+    requires { ⌜ labels ≤ mostLabels ⌝ }
     ensures { λ r. ⌜ r ≡ length (kindsIn labels mask) ⌝ }
 {
     let mut count = 0;
@@ -52,7 +54,7 @@ fn count_kinds(labels: usize, mask: u32) -> usize
 
 // How many records party u has.
 fn count_party(h: Header, kinds: Table, u: usize) -> usize
-    requires { ⌜ (h .parties ≤ 32) × ((h .labels ≤ 8) × (u < 32)) ⌝ }
+    requires { ⌜ PartyLimits h u ⌝ }
     ensures { λ r. ⌜ r ≡ length (entriesOf (matterIn h kinds) u) ⌝ }
 {
     let row = kinds.rows[u];
@@ -67,7 +69,7 @@ fn count_party(h: Header, kinds: Table, u: usize) -> usize
 
 // The numbers of the first records.
 pub fn first_numbers(h: Header, kinds: Table) -> Firsts
-    requires { ⌜ (h .parties ≤ 32) × (h .labels ≤ 8) ⌝ }
+    requires { ⌜ (h .parties ≤ mostParties) × (h .labels ≤ mostLabels) ⌝ }
     ensures { λ r. ⌜ FirstsOf (matterIn h kinds) r ⌝ }
 {
     let mut numbers = [0usize; 33];

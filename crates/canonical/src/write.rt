@@ -3,24 +3,31 @@ ghost use mathlib.Core.Path.{_≡_};
 ghost use Prim.Native.Nat.{_+_, _*_, _-_, _≤_, _<_};
 ghost use lib.ListN.{length};
 ghost use Rattle.lists.specs.Lists.{flatMap, range};
-ghost use Rattle.fields.specs.Writing.{put};
+ghost use Rattle.fields.specs.promises.Writing.{put};
 ghost use Rattle.rebac.specs.Matter.{Matter};
+ghost use Rattle.house_layout.specs.Layout.{headerSize, ownedRecord, headPlace};
 ghost use Rattle.canonical.specs.Canonical.{entriesOf, link, recordsFor, headerBytes, headsBy, recordBytes};
 ghost use Rattle.canonical.specs.Canonical.{canonicalOf, writtenEdition};
-ghost use Rattle.canonical.specs.Masks.{matterIn, Stands, kindsIn, chainBytes, pairBytes, numbersIn, RecordFits, PairFits, PartyFits};
-ghost use Rattle.canonical.specs.Masks.{HeaderFits, HeadsFit, FileFits};
-ghost use Rattle.canonical.specs.Calls.{replyOf, outputOf, writeIn};
+ghost use Rattle.canonical.specs.promises.Masks.{matterIn, Stands, kindsIn, chainBytes, pairBytes, numbersIn};
+ghost use Rattle.canonical.specs.promises.Masks.{RecordFits, PairFits, PartyFits, HeaderFits, HeadsFit, FileFits};
+ghost use Rattle.canonical.specs.Calls.{fileReply, fileOutput, writeIn};
 use crate::count::Firsts;
 use crate::count::first_numbers;
 use crate::count::kind_at;
 use crate::count::says_at;
 use crate::reply::FileReply;
 use fields::put_u16;
+use house_layout::HEAD_SIZE;
+use house_layout::HEADER_SIZE;
 use house_layout::Header;
+use house_layout::OWNED_RECORD;
 use house_layout::OwnerByte;
 use house_layout::Record;
 use house_layout::Refusal;
 use masks::Table;
+
+// The edition that is written.
+const WRITTEN_EDITION: usize = 2;
 
 // A head or next: the number where it is before the chain's end, else 0.
 fn link_to(end: usize, number: usize) -> usize
@@ -61,7 +68,8 @@ fn put_pair(
 ) -> usize
     requires { ⌜ PairFits owner target labels mask base number end (length (now out)) ⌝ }
     ensures { λ r. ⌜ (r ≡ number + length (kindsIn labels mask))
-        × (now (out .exit) ≡ put (now (out .entry)) (base + 5 * (number - 1)) (pairBytes end number owner target (kindsIn labels mask))) ⌝ }
+        × (now (out .exit)
+        ≡ put (now (out .entry)) (base + ownedRecord * (number - 1)) (pairBytes end number owner target (kindsIn labels mask))) ⌝ }
 {
     let mut next = number;
     let mut place = 0;
@@ -73,7 +81,7 @@ fn put_pair(
                 next: link_to(end, next + 1),
                 owner: OwnerByte::Party(owner),
             };
-            put_record(out, base + 5 * (next - 1), x);
+            put_record(out, base + OWNED_RECORD * (next - 1), x);
             next += 1;
         }
         place += 1;
@@ -85,9 +93,10 @@ fn put_pair(
 fn put_party(out: &mut [u8], h: Header, kinds: Table, u: usize, number: usize, end: usize)
     requires { ⌜ PartyFits h kinds u number end (length (now out)) ⌝ }
     ensures { λ _. ⌜ now (out .exit)
-        ≡ put (now (out .entry)) (8 + 2 * h .parties + 5 * (number - 1)) (chainBytes end number (entriesOf (matterIn h kinds) u)) ⌝ }
+        ≡ put (now (out .entry)) (headPlace (h .parties) + ownedRecord * (number - 1))
+        (chainBytes end number (entriesOf (matterIn h kinds) u)) ⌝ }
 {
-    let base = 8 + 2 * h.parties;
+    let base = HEADER_SIZE + HEAD_SIZE * h.parties;
     let row = kinds.rows[u];
     let mut next = number;
     let mut v = 0;
@@ -100,7 +109,7 @@ fn put_party(out: &mut [u8], h: Header, kinds: Table, u: usize, number: usize, e
 // The records of all parties.
 fn put_records(out: &mut [u8], h: Header, kinds: Table, f: Firsts)
     requires { ⌜ FileFits h kinds f (length (now out)) ⌝ }
-    ensures { λ _. ⌜ now (out .exit) ≡ put (now (out .entry)) (8 + 2 * h .parties)
+    ensures { λ _. ⌜ now (out .exit) ≡ put (now (out .entry)) (headPlace (h .parties))
         (flatMap recordBytes (flatMap (recordsFor writtenEdition (matterIn h kinds)) (range (h .parties)))) ⌝ }
 {
     let mut u = 0;
@@ -113,11 +122,15 @@ fn put_records(out: &mut [u8], h: Header, kinds: Table, f: Firsts)
 // The heads of all parties.
 fn put_heads(out: &mut [u8], parties: usize, f: Firsts)
     requires { ⌜ HeadsFit parties f (length (now out)) ⌝ }
-    ensures { λ _. ⌜ now (out .exit) ≡ put (now (out .entry)) 8 (headsBy (numbersIn f) parties) ⌝ }
+    ensures { λ _. ⌜ now (out .exit) ≡ put (now (out .entry)) headerSize (headsBy (numbersIn f) parties) ⌝ }
 {
     let mut u = 0;
     while u < parties {
-        put_u16(out, 8 + 2 * u, link_to(f.numbers[u + 1], f.numbers[u]));
+        put_u16(
+            out,
+            HEADER_SIZE + HEAD_SIZE * u,
+            link_to(f.numbers[u + 1], f.numbers[u]),
+        );
         u += 1;
     }
 }
@@ -149,18 +162,18 @@ fn put_file(out: &mut [u8], h: Header, kinds: Table, f: Firsts)
 // The header's edition and R do not matter.
 pub fn write_matter(h: Header, kinds: Table, out: &mut [u8]) -> FileReply
     requires { ⌜ ((M : Matter) × Stands M h kinds) ⌝ }
-    ensures { λ r. ⌜ ((M : Matter) → Stands M h kinds → (r ≡ replyOf (writeIn (canonicalOf writtenEdition M) (length (now (out .entry)))))
-        × (now (out .exit) ≡ outputOf (writeIn (canonicalOf writtenEdition M) (length (now (out .entry)))) (now (out .entry)))) ⌝ }
+    ensures { λ r. ⌜ ((M : Matter) → Stands M h kinds → (r ≡ fileReply (writeIn (canonicalOf writtenEdition M) (length (now (out .entry)))))
+        × (now (out .exit) ≡ fileOutput (writeIn (canonicalOf writtenEdition M) (length (now (out .entry)))) (now (out .entry)))) ⌝ }
 {
     let n = h.parties;
     let f = first_numbers(h, kinds);
     let records = f.numbers[n] - 1;
-    let size = 8 + 2 * n + 5 * records;
+    let size = HEADER_SIZE + HEAD_SIZE * n + OWNED_RECORD * records;
     if out.len() < size {
         return FileReply::Refused(Refusal::Output);
     }
     let counted = Header {
-        edition: 2,
+        edition: WRITTEN_EDITION,
         parties: n,
         labels: h.labels,
         language: h.language,

@@ -11,7 +11,8 @@ use crate::print::line;
 use crate::print::text;
 use crate::refused;
 use crate::written;
-use paths::Reply;
+use limits::WORD_CAPACITY;
+use paths::WordReply;
 use search::Word;
 
 // Whether a call has more than a file: a word and an output, an output, or a rule list.
@@ -21,9 +22,9 @@ pub fn has_more(call: u8) -> bool {
 
 // The word of a frame: its length, then 31 symbols.
 fn word_of(given: &[u8; 32]) -> Word {
-    let mut symbols = [0u8; 31];
+    let mut symbols = [0u8; WORD_CAPACITY];
     let mut i = 0;
-    while i < 31 {
+    while i < WORD_CAPACITY {
         symbols[i] = given[i + 1];
         i += 1;
     }
@@ -33,13 +34,13 @@ fn word_of(given: &[u8; 32]) -> Word {
     }
 }
 
-fn show_reply(r: Reply) {
+fn show_reply(r: WordReply) {
     match r {
-        Reply::Refused(e) => refused(e),
-        Reply::Nothing => {
+        WordReply::Refused(e) => refused(e),
+        WordReply::Nothing => {
             text(b" none\n");
         }
-        Reply::Wrote(k) => {
+        WordReply::Wrote(k) => {
             text(b" ");
             decimal(k as u64);
             line();
@@ -61,7 +62,7 @@ fn answer(f: Frame, file: &[u8], w: Word, space: &mut [u8], end: usize)
     let second = f.second as usize;
     if f.call == b'p' {
         text(b"path");
-        show_reply(paths::path(file, first, second, w, &mut space[16..end]));
+        show_reply(paths::path_call(file, first, second, w, &mut space[16..end]));
     } else {
         text(b"next-word");
         show_reply(paths::next_call(file, first, second, w, &mut space[16..end]));

@@ -1,6 +1,6 @@
 // The calls that are given a rule list: permit, compare, and the list's text.
 ghost use Rattle.rebac.specs.Matter.{Matter};
-ghost use Rattle.graph.specs.Archive.{Shows};
+ghost use Rattle.graph.specs.promises.Archive.{Shows};
 use crate::fill;
 use crate::frame::Frame;
 use crate::print::hex_bytes;
@@ -19,7 +19,7 @@ fn show_permit(f: Frame, file: &[u8], list: &[u8]) {
     text(b"permit");
     let first = f.first as usize;
     let second = f.second as usize;
-    let reply = rules::permit(file, list, first, second);
+    let reply = rules::permit_call(file, list, first, second);
     match reply {
         PermitReply::Refused(e) => refused(e),
         PermitReply::Yes => {
@@ -39,7 +39,7 @@ fn show_difference(p: Pair, side: &[u8]) {
 
 fn show_compare(file: &[u8], list: &[u8]) {
     text(b"compare");
-    let reply = comparison::compare(file, list);
+    let reply = comparison::compare_call(file, list);
     match reply {
         CompareReply::Refused(e) => refused(e),
         CompareReply::Same => {

@@ -6,7 +6,7 @@ ghost use lib.ListN.{length};
 use house_file::House;
 use house_layout::Check;
 use libc::STDIN_FILENO;
-use libc::STDOUT_FILENO;
+use limits::MOST_PARTIES;
 
 mod calls;
 mod frame;
@@ -59,7 +59,7 @@ fn show_relation(u: usize, v: usize, kinds: u32) {
 
 fn show_row(u: usize, row: masks::Row) {
     let mut v = 0;
-    while v < 32 {
+    while v < MOST_PARTIES {
         show_relation(u, v, row.masks[v]);
         v += 1;
     }
@@ -68,7 +68,7 @@ fn show_row(u: usize, row: masks::Row) {
 fn show_permits(permits: masks::Row) {
     text(b"permits");
     let mut u = 0;
-    while u < 32 {
+    while u < MOST_PARTIES {
         text(b" ");
         hex_mask(permits.masks[u]);
         u += 1;
@@ -87,7 +87,7 @@ fn show_house(house: House) {
     show_permits(permits);
     let kinds = house.kinds;
     let mut u = 0;
-    while u < 32 {
+    while u < MOST_PARTIES {
         let row = kinds.rows[u];
         show_row(u, row);
         u += 1;

@@ -7,28 +7,28 @@ use mathlib.Core.Option.{none, some}
 use Prim.Native.Nat.{ℕ, _+_, _*_, _/_, _%_, _≤_, _<_}
 use Rattle.lists.specs.Lists.{firstBy}
 use Rattle.lists.proofs.Cases.{by-test, and-left, and-right}
-use Rattle.masks.specs.Mask.{testBit}
-use Rattle.masks.specs.Table.{maskIn}
+use Rattle.masks.specs.promises.Mask.{testBit}
+use Rattle.masks.specs.promises.Table.{maskIn}
 use Rattle.rebac.specs.Matter.{Matter, permitted}
 use Rattle.rebac.specs.Words.{Word}
-use Rattle.rebac.specs.Options.{isSome}
+use Rattle.rebac.specs.promises.Options.{isSome}
 use Rattle.rebac.proofs.OptionLaws.{none-of}
 use Rattle.fields.specs.Numbers.{Bytes}
-use Rattle.graph.specs.Archive.{Shows}
+use Rattle.graph.specs.promises.Archive.{Shows}
 use Rattle.graph.specs.declared.Archive.{Archive}
 use Rattle.house_layout.specs.declared.reply.Refusal.the-variants.{RuleList}
-use Rattle.rules.specs.Permit.{meetsList}
+use Rattle.rules.specs.promises.Meets.{meetsList}
 use Rattle.rules.proofs.PermitLaws.{same-answer, archiveList, checked}
-use Rattle.mining.specs.Pairs.{pairAt, isPairAt, pairsFrom}
-use Rattle.mining.proofs.ArchiveLaws.{few-parties}
+use Rattle.mining.specs.promises.Pairs.{pairAt, isPairAt, pairsFrom}
+use Rattle.mining.proofs.ArchiveLaws.{parties-bounded}
 use Rattle.mining.proofs.GridLaws.{pairs-numbered, pairs-skip, pairs-take, pairs-end}
 use Rattle.comparison.specs.Compare.{onlyFile, onlyList, differ, firstDifference, sideOf, comparison, compareBy, compareIn}
-use Rattle.comparison.specs.Given.{Given, SomeGiven}
+use Rattle.comparison.specs.promises.Given.{Given, SomeGiven}
 use Rattle.comparison.specs.declared.call.CompareReply.{CompareReply}
 use Rattle.comparison.specs.declared.call.CompareReply.the-variants.{Refused, Same}
 
-pub given-few : {a : Archive} {list : List ℕ} → SomeGiven a list → a .parties ≤ 32
-given-few {a} w = few-parties (w .0) a (w .1 .1 .shows)
+pub given-bounded : {a : Archive} {list : List ℕ} → SomeGiven a list → a .parties ≤ 32
+given-bounded {a} w = parties-bounded (w .0) a (w .1 .1 .shows)
 
 unequal : (s t : Bool) → not (Bool·beq s t) ≡ ((s && not t) || (t && not s))
 unequal true true = refl
@@ -60,17 +60,17 @@ module _ (M : Matter) (l : List (List Word)) (a : Archive) (list : List ℕ) (h 
 
   pub left-start : Left 0
   unfolding firstDifference
-  left-start = rw (← h .shows .parties, pairs-numbered (a .parties) (few-parties M a (h .shows)))
+  left-start = rw (← h .shows .parties, pairs-numbered (a .parties) (parties-bounded M a (h .shows)))
 
-  module _ (k : ℕ) (few : k < 1024) (d : Left k) where
+  module _ (k : ℕ) (bounded : k < 1024) (d : Left k) where
     pub left-next : (isPairAt (a .parties) k && differ M l (pairAt k)) ≡ false → Left (k + 1)
     unfolding firstBy
     left-next e =
         by-test (isPairAt (a .parties) k)
         (λ t.
         let n : differ M l (pairAt k) ≡ false = rw t at e in
-        d ∙ ap (firstBy (differ M l)) (pairs-take (a .parties) k few t) ∙ rw (n, firstBy) refl)
-        (λ t. d ∙ ap (firstBy (differ M l)) (pairs-skip (a .parties) k few t))
+        d ∙ ap (firstBy (differ M l)) (pairs-take (a .parties) k bounded t) ∙ rw (n, firstBy) refl)
+        (λ t. d ∙ ap (firstBy (differ M l)) (pairs-skip (a .parties) k bounded t))
 
     pub left-found : (isPairAt (a .parties) k && differ M l (pairAt k)) ≡ true
         → comparison M l ≡ sideOf (testBit (maskIn (a .permits) (k / 32)) (k % 32)) (pairAt k)
@@ -79,7 +79,7 @@ module _ (M : Matter) (l : List (List Word)) (a : Archive) (list : List ℕ) (h 
         let t = and-left (isPairAt (a .parties) k) _ e in
         let y = and-right (isPairAt (a .parties) k) _ e in
         let f : firstDifference M l ≡ some (pairAt k) =
-        d ∙ ap (firstBy (differ M l)) (pairs-take (a .parties) k few t) ∙ rw (y, firstBy) refl in
+        d ∙ ap (firstBy (differ M l)) (pairs-take (a .parties) k bounded t) ∙ rw (y, firstBy) refl in
         rw f (ap (λ (b : Bool). sideOf b (pairAt k)) (sym (bit-permitted k)))
 
   pub left-none : (k : ℕ) → 32 * a .parties ≤ k → Left k → comparison M l ≡ Same

@@ -12,12 +12,12 @@ use Rattle.rebac.specs.Words.{Word}
 use Rattle.rebac.specs.Paths.{has}
 use Rattle.rebac.specs.Symbols.{enlarged}
 use Rattle.rebac.specs.Existence.{hasAll, permitsPair}
-use Rattle.graph.specs.Archive.{matterOf}
+use Rattle.graph.specs.FileMatter.{matterOf}
 use Rattle.rule_bytes.specs.ListBytes.{encodeList}
 use Rattle.rule_bytes.proofs.RoundTrip.{decode-encode}
-use Rattle.rules.specs.Permit.{permitReply, permitIn}
+use Rattle.rules.specs.Permit.{permitCall, permitIn}
 use Rattle.rules.proofs.MatterLists.{LegalFor}
-use Rattle.comparison.specs.Compare.{onlyFile, onlyList, differ, firstDifference, answerFor, comparison, compareIn, compareReply}
+use Rattle.comparison.specs.Compare.{onlyFile, onlyList, differ, firstDifference, answerFor, comparison, compareIn, compareCall}
 use Rattle.comparison.specs.Replies.{SameReplies}
 
 module _ (M : Matter) (l m : List (List Word)) where
@@ -46,19 +46,23 @@ module _ (M : Matter) (l m : List (List Word)) where
 
 -- for any file, and two lists that are legal for it
 module _ (f : List ℕ) (l m : List (List Word)) where
+  -- the file's matter
+  abbrev M : Matter
+  M = matterOf f
+
   -- the same terms as sets of sets of words: how often each occurs makes no difference
-  pub same-terms-replies : LegalFor (matterOf f) l → LegalFor (matterOf f) m → SameTerms l m
+  pub same-terms-replies : LegalFor M l → LegalFor M m → SameTerms l m
       → SameReplies f (encodeList l) (encodeList m)
-  unfolding compareReply compareIn permitReply permitIn
+  unfolding compareCall compareIn permitCall permitIn
   same-terms-replies h k s =
-      let a = decode-encode (matterOf f .labels) (matterOf f .language) (matterOf f .longest) l h in
-      let b = decode-encode (matterOf f .labels) (matterOf f .language) (matterOf f .longest) m k in
+      let a = decode-encode (M .labels) (M .language) (M .longest) l h in
+      let b = decode-encode (M .labels) (M .language) (M .longest) m k in
       record {
-        compare = rw (a, b, same-comparison (matterOf f) l m s);
-        permit = λ x y. rw (a, b, same-permits (matterOf f) l m s (pair x y));
+        compare = rw (a, b, same-comparison M l m s);
+        permit = λ x y. rw (a, b, same-permits M l m s (pair x y));
       }
 
   -- 02: "Two lists with the same terms in another order, or the same words in another order within terms, get the same reply."
-  pub reordered-replies : LegalFor (matterOf f) l → ReorderedTerms l m
-      → LegalFor (matterOf f) m × SameReplies f (encodeList l) (encodeList m)
-  reordered-replies h d = let k = reordered-legal (matterOf f) l m d h in (k, same-terms-replies h k (reordered-sets d))
+  pub reordered-replies : LegalFor M l → ReorderedTerms l m
+      → LegalFor M m × SameReplies f (encodeList l) (encodeList m)
+  reordered-replies h d = let k = reordered-legal M l m d h in (k, same-terms-replies h k (reordered-sets d))

@@ -9,11 +9,9 @@ use Rattle.rebac.specs.Words.{Word}
 use Rattle.rebac.specs.Existence.{permitsPair}
 use Rattle.house_layout.specs.Reply.{Said, refusal, values, numberOf}
 use Rattle.house_layout.specs.declared.reply.Refusal.the-variants.{RuleList}
-use Rattle.house_file.specs.Check.{checkOf}
-use Rattle.graph.specs.Archive.{matterOf}
-use Rattle.graph.specs.Refusals.{afterCheck}
+use Rattle.graph.specs.Refusals.{overMatter}
 use Rattle.rule_bytes.specs.ListBytes.{decodeList}
-use Rattle.mining.specs.Building.{named}
+use Rattle.mining.specs.Values.{pairValue}
 use Rattle.comparison.specs.declared.call.CompareReply.{CompareReply}
 use Rattle.comparison.specs.declared.call.CompareReply.the-variants.{Refused, Same, OnlyFile, OnlyList}
 
@@ -35,8 +33,8 @@ module _ (M : Matter) (l : List (List Word)) where
 
 -- "and which of the two permits it": the file's table, or else the list
 abbrev pub sideOf : Bool → Pair → CompareReply
-sideOf true p = OnlyFile (named p)
-sideOf false p = OnlyList (named p)
+sideOf true p = OnlyFile (pairValue p)
+sideOf false p = OnlyList (pairValue p)
 
 -- "same", or the pair and its side
 abbrev pub answerFor : Matter → Option Pair → CompareReply
@@ -57,8 +55,8 @@ unfoldable pub compareIn : Matter → List ℕ → CompareReply
 compareIn M list = compareBy M (decodeList (M .labels) (M .language) (M .longest) list)
 
 -- for any bytes: "It refuses as the permit call does, without the pair": the file's refusals, then 9
-unfoldable pub compareReply : List ℕ → List ℕ → CompareReply
-compareReply file list = afterCheck Refused (checkOf file) (compareIn (matterOf file) list)
+unfoldable pub compareCall : List ℕ → List ℕ → CompareReply
+compareCall file list = overMatter Refused file (λ M. compareIn M list)
 
 -- the reply in number and values: none for "same"; the pair, then 0 where the file permits it and 1 where the list does
 abbrev pub saidCompare : CompareReply → Said

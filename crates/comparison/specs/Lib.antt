@@ -1,3 +1,3 @@
 pub mod Compare
-pub mod Given
 pub mod Replies
+pub mod promises

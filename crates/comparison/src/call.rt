@@ -3,17 +3,19 @@ ghost use mathlib.Core.Path.{_≡_};
 ghost use mathlib.Core.Bool.{_&&_};
 ghost use mathlib.Core.List.{List};
 ghost use Prim.Native.Nat.{_*_, _/_, _%_, _<_};
-ghost use Rattle.masks.specs.Mask.{testBit};
-ghost use Rattle.masks.specs.Table.{maskIn};
+ghost use Rattle.limits.specs.Limits.{mostParties, pairNumbers};
+ghost use Rattle.masks.specs.promises.Mask.{testBit};
+ghost use Rattle.masks.specs.promises.Table.{maskIn};
 ghost use Rattle.rebac.specs.Matter.{Matter};
 ghost use Rattle.rebac.specs.Words.{Word};
-ghost use Rattle.graph.specs.Archive.{Shows};
-ghost use Rattle.mining.specs.Pairs.{pairAt, isPairAt};
-ghost use Rattle.comparison.specs.Compare.{differ, sideOf, comparison, compareIn, compareReply};
-ghost use Rattle.comparison.specs.Given.{Given, SomeGiven};
+ghost use Rattle.graph.specs.promises.Archive.{Shows};
+ghost use Rattle.mining.specs.promises.Pairs.{pairAt, isPairAt};
+ghost use Rattle.comparison.specs.Compare.{differ, sideOf, comparison, compareIn, compareCall};
+ghost use Rattle.comparison.specs.promises.Given.{Given, SomeGiven};
 use graph::Archive;
 use house_layout::Check;
 use house_layout::Refusal;
+use limits::MOST_PARTIES;
 use masks::Row;
 use mining::Pair;
 use rule_bytes::check_list;
@@ -30,12 +32,12 @@ pub enum CompareReply {
 
 // Whether number k is a pair that the table or the checked list permits and the other doesn't.
 fn differ_at(a: Archive, list: &[u8], k: usize) -> bool
-    requires { ⌜ (k < 32 * a .parties) × SomeGiven a (now list) ⌝ }
+    requires { ⌜ (k < mostParties * a .parties) × SomeGiven a (now list) ⌝ }
     ensures { λ r. ⌜ ((M : Matter) (l : List (List Word)) → Given M l a (now (list .entry))
         → r ≡ (isPairAt (a .parties) k && differ M l (pairAt k))) ⌝ }
 {
-    let u: usize = k / 32;
-    let v: usize = k % 32;
+    let u: usize = k / MOST_PARTIES;
+    let v: usize = k % MOST_PARTIES;
     if !graph::is_pair(a.parties, u, v) {
         return false;
     }
@@ -47,14 +49,14 @@ fn differ_at(a: Archive, list: &[u8], k: usize) -> bool
 
 // The pair of number k, and the side that permits it.
 fn side_at(permits: Row, k: usize) -> CompareReply
-    requires { ⌜ k < 1024 ⌝ }
-    ensures { λ r. ⌜ r ≡ sideOf (testBit (maskIn permits (k / 32)) (k % 32)) (pairAt k) ⌝ }
+    requires { ⌜ k < pairNumbers ⌝ }
+    ensures { λ r. ⌜ r ≡ sideOf (testBit (maskIn permits (k / mostParties)) (k % mostParties)) (pairAt k) ⌝ }
 {
     let p = Pair {
-        first: k / 32,
-        second: k % 32,
+        first: k / MOST_PARTIES,
+        second: k % MOST_PARTIES,
     };
-    if masks::has(permits.masks[k / 32], (k % 32) as u32) {
+    if masks::has(permits.masks[k / MOST_PARTIES], (k % MOST_PARTIES) as u32) {
         return CompareReply::OnlyFile(p);
     }
     CompareReply::OnlyList(p)
@@ -65,7 +67,7 @@ fn first_difference(a: Archive, list: &[u8]) -> CompareReply
     requires { ⌜ SomeGiven a (now list) ⌝ }
     ensures { λ r. ⌜ ((M : Matter) (l : List (List Word)) → Given M l a (now (list .entry)) → r ≡ comparison M l) ⌝ }
 {
-    let count = 32 * a.parties;
+    let count = MOST_PARTIES * a.parties;
     for k in 0..count {
         if differ_at(a, list, k) {
             return side_at(a.permits, k);
@@ -86,8 +88,8 @@ fn compare_in(a: Archive, list: &[u8]) -> CompareReply
 }
 
 // The call of Ticket 3, for any bytes.
-pub fn compare(file: &[u8], list: &[u8]) -> CompareReply
-    ensures { λ r. ⌜ r ≡ compareReply (now (file .entry)) (now (list .entry)) ⌝ }
+pub fn compare_call(file: &[u8], list: &[u8]) -> CompareReply
+    ensures { λ r. ⌜ r ≡ compareCall (now (file .entry)) (now (list .entry)) ⌝ }
 {
     let r = graph::load(file);
     let reply = r.reply;

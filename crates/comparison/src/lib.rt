@@ -2,4 +2,4 @@
 mod call;
 
 pub use call::CompareReply;
-pub use call::compare;
+pub use call::compare_call;

@@ -1,13 +1,14 @@
 -- What the two calls answer for a matter, by the outcome of their tests; an archive's list and verdict are its matter's.
 use mathlib.Core.Path.{_≡_, refl, sym, ap, _∙_}
 use mathlib.Core.Bool.{Bool, true, false, _&&_}
-use mathlib.Core.List.{List}
+use mathlib.Core.List.{List, _++_}
 use mathlib.Core.Logic.{_⊎_, ⊎-elim}
 use Prim.Native.Nat.{ℕ, _/_, _%_, _≤_, _<_}
 use native.Mathlib.Omega.{arith}
-use lib.ListN.{length}
+use lib.ListN.{length, drop}
 use lib.Dec.{leb}
 use borrow.Author.Tests.{le-leb, lt-leb}
+use Rattle.masks.specs.promises.Table.{maskIn}
 use Rattle.masks.specs.declared.Row.{Row}
 use Rattle.rebac.specs.Matter.{Matter, Pair, pair}
 use Rattle.rebac.specs.Words.{Word}
@@ -23,32 +24,33 @@ use Rattle.house_file.specs.Check.{checkOf}
 use Rattle.house_file.proofs.FileRefusals.{OfFile, file-refusals}
 use Rattle.house_layout.specs.declared.reply.Refusal.{Refusal}
 use Rattle.graph.specs.declared.Archive.{Archive}
-use Rattle.graph.specs.Archive.{Shows}
+use Rattle.graph.specs.promises.Archive.{Shows}
 use Rattle.graph.specs.Legal.{isPair}
-use Rattle.mining.specs.Building.{problemIn}
-use Rattle.mining.specs.Taking.{Marks}
+use Rattle.mining.specs.promises.Building.{problemIn}
+use Rattle.mining.specs.promises.Taking.{PairMarks}
 use Rattle.mining.specs.declared.build.Pair.{Pair as PairValue}
 use Rattle.mining.proofs.ArchiveLaws.{problem-shown}
-use Rattle.conversion.specs.Calls.{listOf, bytesOf, replyOf, verdictIn, tableOf, refuses, tooShort, writes, miningIn, scratchOf}
-use Rattle.conversion.specs.Passes.{archiveBytes, archiveVerdict, rowBytes}
+use Rattle.conversion.specs.Calls.{listOf, bytesOf, verdictReply, verdictIn, tableOf, refuses, miningIn, miningScratch, Mined}
+use Rattle.conversion.specs.promises.Passes.{archiveBytes, archiveVerdict, rowBytes, ListRoom}
+use Rattle.conversion.specs.declared.mine.MiningReply.the-variants as mined
 use Rattle.conversion.specs.declared.verdict.VerdictReply.the-variants.{Refused, Convertible, NoWord, Rival}
-use Rattle.conversion.proofs.TableLaws.{marks-bytes}
+use Rattle.conversion.proofs.TableLaws.{clear-bytes, marks-bytes}
 use Rattle.conversion.proofs.ReplyLaws.{reply-convertible, reply-no-word, reply-rival, reply-refused}
 
-module _ (M : Matter) (a : Archive) (h : Shows M a) where
-  pub bytes-shown : archiveBytes a ≡ bytesOf M
+module _ {M : Matter} {a : Archive} (h : Shows M a) where
+  bytes-shown : archiveBytes a ≡ bytesOf M
   unfolding archiveBytes bytesOf listOf minedList
-  bytes-shown = rw (problem-shown M a h) refl
+  bytes-shown = rw (problem-shown h) refl
 
   pub verdict-shown : archiveVerdict a ≡ verdictIn M
   unfolding archiveVerdict verdictIn verdictOf
-  verdict-shown = ap (λ (b : List ℕ). replyOf (length b) (verdict (problemIn a))) bytes-shown ∙ rw (problem-shown M a h) refl
+  verdict-shown = ap (λ (b : List ℕ). verdictReply (length b) (verdict (problemIn a))) bytes-shown ∙ rw (problem-shown h) refl
 
   -- the table of the mined list, from its marks
-  pub table-shown : (r : Row) → Marks a (mine (problemIn a)) r → rowBytes r ≡ tableOf M
+  table-shown : (r : Row) → PairMarks a (mine (problemIn a)) r → rowBytes r ≡ tableOf M
   unfolding tableOf listOf minedList
   table-shown r m =
-      let e = problem-shown M a h in
+      let e = problem-shown h in
       marks-bytes r (λ k. isPair (M .parties) (k / 32) (k % 32) && permitsPair M (listOf M) (pair (k / 32) (k % 32)))
       (λ k. m (k / 32) (k % 32)
       ∙ ap (λ (n : ℕ). isPair n (k / 32) (k % 32) && permits (problemIn a) (mine (problemIn a)) (pair (k / 32) (k % 32))) (h .parties)
@@ -56,58 +58,75 @@ module _ (M : Matter) (a : Archive) (h : Shows M a) where
       ∙ ap (λ (b : Bool). isPair (M .parties) (k / 32) (k % 32) && b)
       (permits-one M (pair (k / 32) (k % 32)) (minedList M) (mined-ones M refl)))
 
-  module _ (scratch output : ℕ) where
-    pub mining-scratch : scratch < 1024 → miningIn M scratch output ≡ refuses Scratch
+  -- what mining gives for this scratch and output, by the outcome of its tests
+  module _ (scratch output : List ℕ) where
+    pub mined-scratch : length scratch < 1024 → Mined (miningIn M) (mined.Refused Scratch) scratch scratch output output
     unfolding miningIn
-    mining-scratch e = rw (lt-leb 1024 scratch e) refl
+    mined-scratch e = rw (lt-leb 1024 (length scratch) e) (refl, (refl, refl))
 
-    module _ (s : 1024 ≤ scratch) where
-      enough-scratch : leb 1024 scratch ≡ true
-      enough-scratch = le-leb 1024 scratch s
+    module _ (s : 1024 ≤ length scratch) where
+      enough-scratch : leb 1024 (length scratch) ≡ true
+      enough-scratch = le-leb 1024 (length scratch) s
 
-      mining-inconvertible : isConvertible (problemOf M) (verdictOf M) ≡ false → miningIn M scratch output ≡ refuses Inconvertible
+      inconvertible : isConvertible (problemOf M) (verdictOf M) ≡ false
+          → Mined (miningIn M) (mined.Refused Inconvertible) scratch scratch output output
       unfolding miningIn
-      mining-inconvertible e = rw (enough-scratch, e) refl
+      inconvertible e = rw (enough-scratch, e) (refl, (refl, refl))
 
-      pub mining-no-word : (p : PairValue) → NoWord p ≡ archiveVerdict a → miningIn M scratch output ≡ refuses Inconvertible
+      pub mined-no-word : {p : PairValue} → NoWord p ≡ archiveVerdict a
+          → Mined (miningIn M) (mined.Refused Inconvertible) scratch scratch output output
       unfolding verdictIn
-      mining-no-word p e = mining-inconvertible (rw (reply-no-word (length (bytesOf M)) p (verdictOf M) (sym (e ∙ verdict-shown))) refl)
+      mined-no-word {p} e = inconvertible (rw (reply-no-word (length (bytesOf M)) p (verdictOf M) (sym (e ∙ verdict-shown))) refl)
 
-      pub mining-rival : (p q : PairValue) → Rival p q ≡ archiveVerdict a → miningIn M scratch output ≡ refuses Inconvertible
+      pub mined-rival : {p q : PairValue} → Rival p q ≡ archiveVerdict a
+          → Mined (miningIn M) (mined.Refused Inconvertible) scratch scratch output output
       unfolding verdictIn
-      mining-rival p q e = mining-inconvertible (rw (reply-rival (length (bytesOf M)) p q (verdictOf M) (sym (e ∙ verdict-shown))) refl)
+      mined-rival {p} {q} e = inconvertible (rw (reply-rival (length (bytesOf M)) p q (verdictOf M) (sym (e ∙ verdict-shown))) refl)
 
-      module _ (size : ℕ) (e : Convertible size ≡ archiveVerdict a) where
+      module _ {size : ℕ} (e : Convertible size ≡ archiveVerdict a) where
         told : (verdictOf M ≡ convertible) × (length (bytesOf M) ≡ size)
         unfolding verdictIn
         told = reply-convertible (length (bytesOf M)) size (verdictOf M) (sym (e ∙ verdict-shown))
 
-        pub mining-short : output < size → miningIn M scratch output ≡ tooShort
+        -- the table of no marks, where the output is too short
+        pub mined-short : length output < size → (r : Row) → ((v : ℕ) → maskIn r v ≡ 0)
+            → (scratchAfter : List ℕ) → scratchAfter ≡ rowBytes r ++ drop 1024 scratch
+            → Mined (miningIn M) (mined.Refused Output) scratch scratchAfter output output
         unfolding miningIn
-        mining-short o = rw (enough-scratch, told .0, lt-leb (length (bytesOf M)) output (rw (← told .1) at o)) refl
+        mined-short o r z new q =
+            rw (enough-scratch, told .0, lt-leb (length (bytesOf M)) (length output) (rw (← told .1) at o))
+            (refl, (q ∙ ap (λ (l : List ℕ). l ++ drop 1024 scratch) (clear-bytes r z), refl))
 
-        pub mining-writes : size ≤ output → miningIn M scratch output ≡ writes (tableOf M) (bytesOf M)
-        unfolding miningIn
-        mining-writes o = rw (enough-scratch, told .0, le-leb (length (bytesOf M)) output (rw (← told .1) at o)) refl
+        module _ (o : size ≤ length output) where
+          pub list-room : ListRoom a (length output)
+          unfolding verdictOf
+          list-room = record { shown = (M, h); verdict = rw (problem-shown h) (told .0); room = rw (bytes-shown, told .1) o }
 
-        pub mining-size : size ≡ length (bytesOf M)
-        mining-size = sym (told .1)
-
-        -- what writing the list asks for
-        pub mining-asks : size ≤ output → (verdict (problemIn a) ≡ convertible) × (length (archiveBytes a) ≤ output)
-        unfolding verdictOf
-        mining-asks o = (rw (problem-shown M a h) (told .0), rw (bytes-shown, told .1) o)
+          -- the list, and the table of its marks
+          pub mined-writes : (r : Row) → PairMarks a (mine (problemIn a)) r
+              → (scratchAfter outputAfter : List ℕ) → scratchAfter ≡ rowBytes r ++ drop 1024 scratch
+              → outputAfter ≡ archiveBytes a ++ drop (length (archiveBytes a)) output
+              → Mined (miningIn M) (mined.Wrote size) scratch scratchAfter output outputAfter
+          unfolding miningIn
+          mined-writes r m new list q w =
+              rw (enough-scratch, told .0, le-leb (length (bytesOf M)) (length output) (rw (← told .1) at o)) (
+                ap mined.Wrote (sym (told .1)),
+                (
+                  q ∙ ap (λ (l : List ℕ). l ++ drop 1024 scratch) (table-shown r m),
+                  w ∙ ap (λ (l : List ℕ). l ++ drop (length l) output) bytes-shown,
+                ),
+              )
 
 -- no verdict of an archive is a refusal
-pub never-refused : {G : Type 0} (a : Archive) (x : Refusal) → Refused x ≡ archiveVerdict a → G
+pub never-refused : {G : Type 0} (a : Archive) {x : Refusal} → Refused x ≡ archiveVerdict a → G
 unfolding archiveVerdict
-never-refused a x e = reply-refused (length (archiveBytes a)) x (verdict (problemIn a)) (sym e)
+never-refused a {x} e = reply-refused (length (archiveBytes a)) x (verdict (problemIn a)) (sym e)
 
 -- scratch is kept at a refusal that comes from a file: those are 1 to 8 and 15
 no-file : {G : Type 0} (n : ℕ) → 8 < n → n < 15 → (n ≤ 8) ⊎ (n ≡ 15) → G
 no-file n a b h = ⊎-elim (λ e. absurd (omega arith)) (λ e. absurd (omega arith)) h
 
-kept-at : (x : Refusal) → OfFile x → (old : List ℕ) → scratchOf (refuses x) old ≡ old
+kept-at : (x : Refusal) → OfFile x → (old : List ℕ) → miningScratch (refuses x) old ≡ old
 kept-at Length h old = refl
 kept-at Field h old = refl
 kept-at Link h old = refl
@@ -124,5 +143,5 @@ kept-at Inconvertible h old = no-file 13 (omega arith) (omega arith) h
 kept-at Output h old = no-file 14 (omega arith) (omega arith) h
 kept-at Owner h old = refl
 
-pub file-keeps : (f : List ℕ) (x : Refusal) → checkOf f ≡ check.Refused x → (old : List ℕ) → scratchOf (refuses x) old ≡ old
+pub file-keeps : (f : List ℕ) (x : Refusal) → checkOf f ≡ check.Refused x → (old : List ℕ) → miningScratch (refuses x) old ≡ old
 file-keeps f x e old = kept-at x (file-refusals f x e) old

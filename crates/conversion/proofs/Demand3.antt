@@ -4,7 +4,6 @@ use mathlib.Core.Path.{_≡_, refl, sym, ap, _∙_, subst}
 use mathlib.Core.Logic.{_⊎_, inl, inr, ⊎-elim}
 use mathlib.Core.Bool.{true, false, not, _&&_}
 use mathlib.Core.List.{List, _∷_, _++_, List·Memᴰ, List·Memᴰ·not-nil}
-use mathlib.Core.Option.{none, some}
 use Prim.Native.Nat.{ℕ, _+_, _*_, _/_, _%_, _≤_, _<_}
 use native.Mathlib.Omega.{arith}
 use lib.ListN.{length, drop, getD, List·getD-append}
@@ -28,27 +27,28 @@ use Rattle.rebac.proofs.PairsLaws.{pairs-in, pairs-out, pairs-ascending}
 use Rattle.rebac.proofs.Reach.{has-in, has-out, least-is-path, least-is-least, least-none}
 use Rattle.rebac.proofs.SearchLaws.{least-size}
 use Rattle.rebac.proofs.VerdictLaws.{judge-word, judge-no-rival, NoWord, Rivalled, is-convertible}
-use Rattle.rebac.proofs.Conversion.{score-has, score-one, word-in, word-out, mined-words, mined-terms-few, mined-items-few}
+use Rattle.rebac.proofs.Conversion.{score-has, score-one, word-in, word-out, mined-words, mined-terms-bounded, mined-items-bounded}
 use Rattle.rebac.proofs.Conversion.{no-word-verdict, rival-verdict, convertible-iff, mined-converts}
 use Rattle.house_file.specs.Check.{checkOf}
-use Rattle.house_layout.specs.declared.reply.Check.the-variants.{Accepted, Refused}
+use Rattle.house_layout.specs.declared.reply.Check.the-variants.{Accepted}
 use Rattle.house_layout.specs.declared.reply.Refusal.{Refusal}
-use Rattle.graph.specs.Archive.{matterOf, Limits}
+use Rattle.graph.specs.FileMatter.{matterOf, Limits}
 use Rattle.graph.specs.Legal.{isPair}
 use Rattle.graph.proofs.LoadLaws.{accepted-limits}
 use Rattle.graph.proofs.LegalLaws.{pair-of, pair-is}
 use Rattle.paths.specs.Calls.{pathCall, found, writes, nothing}
 use Rattle.search.specs.declared.word.Word.{Word as WordValue}
-use Rattle.paths.specs.declared.call.Reply.the-variants.{Wrote as WrotePath}
+use Rattle.paths.specs.declared.call.WordReply.the-variants.{Wrote as WrotePath}
 use Rattle.paths.proofs.CallLaws.{path-answer}
 use Rattle.paths.proofs.HandOutLaws.{value-legal}
-use Rattle.search.specs.Word.{wordOf, IsValue, Carries}
+use Rattle.search.specs.promises.WordValues.{wordOf, IsValue}
+use Rattle.search.specs.Word.{Carries}
 use Rattle.search.proofs.ValueLaws.{value-carries, value-is}
-use Rattle.rules.specs.Permit.{permitReply, yesOrNo}
+use Rattle.rules.specs.Permit.{permitCall, yesOrNo}
 use Rattle.rules.proofs.MatterLists.{permit-of-mined}
 use Rattle.mining.specs.declared.build.Pair.{Pair as PairValue}
 use Rattle.conversion.specs.declared.verdict.VerdictReply.the-variants as reply
-use Rattle.conversion.specs.Calls.{listOf, bytesOf, replyOf, verdictIn, verdictCall, oneIf, tableOf}
+use Rattle.conversion.specs.Calls.{listOf, bytesOf, verdictReply, verdictIn, verdictCall, oneIf, tableOf}
 use Rattle.conversion.specs.Calls.{miningIn, miningCall, tooShort, writes as writesList}
 use Rattle.conversion.specs.declared.mine.MiningReply.the-variants.{Wrote}
 use Rattle.conversion.proofs.SizeLaws.{term-bound, list-bound}
@@ -151,11 +151,11 @@ table-at M a b p q =
 pub bytes-bound : (M : Matter) → Limits M → length (bytesOf M) ≤ 2 + 992 * 31778
 unfolding bytesOf listOf
 bytes-bound M k =
-    list-bound (plainList (minedList M)) (omega (arith, length-map plainTerm (minedList M), mined-terms-few M (k .parties .1)))
+    list-bound (plainList (minedList M)) (omega (arith, length-map plainTerm (minedList M), mined-terms-bounded M (k .parties .1)))
     (λ t m.
     let s = map-out plainTerm (minedList M) m in
     rw (s .2) (term-bound (plainTerm (s .0))
-    (omega (arith, length-map (λ i. i .word) (s .0), mined-items-few M (k .parties .1) (s .0) (s .1)))
+    (omega (arith, length-map (λ i. i .word) (s .0), mined-items-bounded M (k .parties .1) (s .0) (s .1)))
     (λ w n.
     let i = map-out (λ i. i .word) (s .0) n in
     rw (i .2) (omega (arith, mined-words M (s .0) (s .1) (i .0) (i .1) .short, k .longest .1)))))
@@ -167,61 +167,65 @@ convertible-accepted f k v = by-check (checkOf f) (λ e. e) (λ x e. clash (cc (
 
 -- Demand 3, for every accepted file
 module _ (f : List ℕ) (e : checkOf f ≡ Accepted) where
-  call-in : verdictCall f ≡ replyOf (length (bytesOf (matterOf f))) (verdictOf (matterOf f))
+  -- the file's matter
+  abbrev M : Matter
+  M = matterOf f
+
+  call-in : verdictCall f ≡ verdictReply (length (bytesOf M)) (verdictOf M)
   unfolding verdictCall verdictIn
   call-in = rw e
 
   -- the verdict behind the reply
   pub convertible-verdict : (k : ℕ) → verdictCall f ≡ reply.Convertible k
-      → (verdictOf (matterOf f) ≡ convertible) × (length (bytesOf (matterOf f)) ≡ k)
-  convertible-verdict k v = reply-convertible (length (bytesOf (matterOf f))) k (verdictOf (matterOf f)) (sym call-in ∙ v)
+      → (verdictOf M ≡ convertible) × (length (bytesOf M) ≡ k)
+  convertible-verdict k v = reply-convertible (length (bytesOf M)) k (verdictOf M) (sym call-in ∙ v)
 
-  small : {p : Pair} → IsPair (matterOf f .parties) p → (p .first < 32) × (p .second < 32)
+  small : {p : Pair} → IsPair (M .parties) p → (p .first < 32) × (p .second < 32)
   small {p} h = let n = accepted-limits f e .parties .1 in (omega (arith, h .first), omega (arith, h .second))
 
   -- an accepted file is never refused a verdict
   pub verdict-given : (x : Refusal) → verdictCall f ≡ reply.Refused x → ⊥
-  verdict-given x q = reply-refused (length (bytesOf (matterOf f))) x (verdictOf (matterOf f)) (sym call-in ∙ q)
+  verdict-given x q = reply-refused (length (bytesOf M)) x (verdictOf M) (sym call-in ∙ q)
 
   -- convertible exactly where a rule list exists: any list at all with words of at most D symbols makes it so,
   -- and where it is so there is one of the language's own words
   pub verdict-exact :
-      (((r : List (List Word)) × ConvertsAny (matterOf f) r) → (k : ℕ) × (verdictCall f ≡ reply.Convertible k))
-      × (((k : ℕ) × (verdictCall f ≡ reply.Convertible k)) → (r : List (List Word)) × Converts (matterOf f) r)
+      (((r : List (List Word)) × ConvertsAny M r) → (k : ℕ) × (verdictCall f ≡ reply.Convertible k))
+      × (((k : ℕ) × (verdictCall f ≡ reply.Convertible k)) → (r : List (List Word)) × Converts M r)
   verdict-exact = (
-    λ x. (length (bytesOf (matterOf f)), call-in ∙ rw (any-list-verdict (matterOf f) (x .0) (x .1))),
-    λ x. convertible-iff (matterOf f) refl .0 (convertible-verdict (x .0) (x .1) .0),
+    λ x. (length (bytesOf M), call-in ∙ rw (any-list-verdict M (x .0) (x .1))),
+    λ x. convertible-iff M refl .0 (convertible-verdict (x .0) (x .1) .0),
   )
 
   -- the path call for a pair and a word of the matter, with output enough
-  path-call : (p : Pair) → IsPair (matterOf f .parties) p → (v : Word) → MatterWord (matterOf f) v → (w : WordValue) → Carries w v
-      → (size : ℕ) → w .len + 1 ≤ size → pathCall f (p .first) (p .second) w size ≡ found (leastPath (enlarged (matterOf f)) p v)
+  path-call : (p : Pair) → IsPair (M .parties) p → (v : Word) → MatterWord M v → (w : WordValue) → Carries w v
+      → (size : ℕ) → w .len + 1 ≤ size → pathCall f (p .first) (p .second) w size ≡ found (leastPath (enlarged M) p v)
   unfolding pathCall
   path-call p h v m w c size k =
-      let l = value-legal (matterOf f) v (m .over) (m .short) w c in
+      let l = value-legal M v (m .over) (m .short) w c in
       rw e
-      (path-answer (matterOf f) (p .first) (p .second) w size (pair-is (matterOf f .parties) (p .first) (p .second) h) l
+      (path-answer M (p .first) (p .second) w size (pair-is (M .parties) (p .first) (p .second) h) l
       (λ z. absurd (omega (arith, c .len, m .some))) k
       ∙ rw (c .symbols))
 
-  path-shown : (p : Pair) → IsPair (matterOf f .parties) p → (v : Word) → HasWord (matterOf f) p v → (w : WordValue) → Carries w v
+  path-shown : (p : Pair) → IsPair (M .parties) p → (v : Word) → HasWord M p v → (w : WordValue) → Carries w v
       → (output : List ℕ) → w .len + 1 ≤ length output → ShowsPath f p w output
   path-shown p h v m w c output k =
-      by-found (leastPath (enlarged (matterOf f)) p v)
-      (λ n. both (has-in (enlarged (matterOf f)) p v (m .1 .0) (m .1 .1)) (least-none (enlarged (matterOf f)) p v .0 n))
+      by-found (leastPath (enlarged M) p v)
+      (λ n. both (has-in (enlarged M) p v (m .1 .0) (m .1 .1)) (least-none (enlarged M) p v .0 n))
       (λ l n.
-      let r = least-is-path (enlarged (matterOf f)) p v (m .0 .some) n in
+      let r = least-is-path (enlarged M) p v (m .0 .some) n in
       let z : l ≡ p .first ∷ r .0 = r .1 in
       let a : pathCall f (p .first) (p .second) w (length output) ≡ writes (p .first ∷ r .0) =
       path-call p h v (m .0) w c (length output) k ∙ ap found n ∙ ap writes z in
       let s : length (p .first ∷ r .0) ≡ w .len + 1 =
-      ap length (sym z) ∙ least-size (enlarged (matterOf f)) p v n ∙ omega (arith, c .len) in
+      ap length (sym z) ∙ least-size (enlarged M) p v n ∙ omega (arith, c .len) in
       record {
         via = r .0;
         path = rw (c .symbols) (r .2);
         least = λ other o.
             subst (λ (y : List ℕ). (y ≡ p .first ∷ other) ⊎ (lexLess y (p .first ∷ other) ≡ true)) z
-            (least-is-least (enlarged (matterOf f)) p v n other (rw (c .symbols) at o));
+            (least-is-least (enlarged M) p v n other (rw (c .symbols) at o));
         answer = a;
         reply = rw a (ap WrotePath s);
         written = rw a (ap (λ (i : ℕ). (p .first ∷ r .0) ++ drop i output) s);
@@ -230,28 +234,28 @@ module _ (f : List ℕ) (e : checkOf f ≡ Accepted) where
   -- not convertible, no word: the first permitted pair that has no word or has a rival; it has none,
   -- and the path call says so for every word
   pub no-word-exact : (x : PairValue) → verdictCall f ≡ reply.NoWord x
-      → FirstPair (matterOf f) (Hinders (matterOf f)) (pairIn x) × Wordless (matterOf f) (pairIn x)
+      → FirstPair M (Hinders M) (pairIn x) × Wordless M (pairIn x)
   no-word-exact x v =
-      no-word-first (matterOf f) (pairIn x) (reply-no-word (length (bytesOf (matterOf f))) x (verdictOf (matterOf f)) (sym call-in ∙ v))
+      no-word-first M (pairIn x) (reply-no-word (length (bytesOf M)) x (verdictOf M) (sym call-in ∙ v))
 
-  pub no-word-nothing : (x : PairValue) → verdictCall f ≡ reply.NoWord x → (v : Word) → MatterWord (matterOf f) v
+  pub no-word-nothing : (x : PairValue) → verdictCall f ≡ reply.NoWord x → (v : Word) → MatterWord M v
       → (w : WordValue) → Carries w v → (size : ℕ) → w .len + 1 ≤ size → pathCall f (x .first) (x .second) w size ≡ nothing
   no-word-nothing x t v m w c size k =
       let r = no-word-exact x t in
-      let n : has (enlarged (matterOf f)) (pairIn x) v ≡ false =
-      by-test (has (enlarged (matterOf f)) (pairIn x) v)
-      (λ h. absurd (r .1 v (m, has-out (enlarged (matterOf f)) (pairIn x) v (m .some) h))) (λ h. h) in
-      path-call (pairIn x) (r .0 .isPair) v m w c size k ∙ rw (least-none (enlarged (matterOf f)) (pairIn x) v .1 n)
+      let n : has (enlarged M) (pairIn x) v ≡ false =
+      by-test (has (enlarged M) (pairIn x) v)
+      (λ h. absurd (r .1 v (m, has-out (enlarged M) (pairIn x) v (m .some) h))) (λ h. h) in
+      path-call (pairIn x) (r .0 .isPair) v m w c size k ∙ rw (least-none (enlarged M) (pairIn x) v .1 n)
 
   -- not convertible, a rival: the same pair, its first rival, and at every word of the pair the path call shows a path for both
   pub rival-exact : (x y : PairValue) → verdictCall f ≡ reply.Rival x y
-      → FirstPair (matterOf f) (Hinders (matterOf f)) (pairIn x) × FirstPair (matterOf f) (IsRival (matterOf f) (pairIn x)) (pairIn y)
+      → FirstPair M (Hinders M) (pairIn x) × FirstPair M (IsRival M (pairIn x)) (pairIn y)
   rival-exact x y v =
-      rival-first (matterOf f) (pairIn x) (pairIn y)
-      (reply-rival (length (bytesOf (matterOf f))) x y (verdictOf (matterOf f)) (sym call-in ∙ v))
+      rival-first M (pairIn x) (pairIn y)
+      (reply-rival (length (bytesOf M)) x y (verdictOf M) (sym call-in ∙ v))
 
   pub rival-shown :
-      (x y : PairValue) → verdictCall f ≡ reply.Rival x y → (v : Word) → HasWord (matterOf f) (pairIn x) v → (w : WordValue) → Carries w v
+      (x y : PairValue) → verdictCall f ≡ reply.Rival x y → (v : Word) → HasWord M (pairIn x) v → (w : WordValue) → Carries w v
       → (output : List ℕ) → 32 ≤ length output → ShowsPath f (pairIn x) w output × ShowsPath f (pairIn y) w output
   rival-shown x y t v h w c output k =
       let r = rival-exact x y t in
@@ -261,29 +265,29 @@ module _ (f : List ℕ) (e : checkOf f ≡ Accepted) where
       )
 
   -- and every word of a matter has a value
-  pub word-valued : (v : Word) → MatterWord (matterOf f) v → IsValue (wordOf v) × Carries (wordOf v) v
+  pub word-valued : (v : Word) → MatterWord M v → IsValue (wordOf v) × Carries (wordOf v) v
   word-valued v m =
       let n = accepted-limits f e in
       let small : (i : ℕ) → getD v i 0 < 256 =
       getD-below 256 (omega arith) v
-      (λ s o. omega (arith, alphabet-below (matterOf f .language) (matterOf f .labels) (m .over s o), n .labels .1)) in
+      (λ s o. omega (arith, alphabet-below (M .language) (M .labels) (m .over s o), n .labels .1)) in
       (value-is v (omega (arith, m .short, n .longest .1)) small, value-carries v)
 
-  permits-back : (a b : ℕ) → verdictOf (matterOf f) ≡ convertible → isPair (matterOf f .parties) a b ≡ true
-      → permitReply f (bytesOf (matterOf f)) a b ≡ yesOrNo (permitted (matterOf f) (pair a b))
+  permits-back : (a b : ℕ) → verdictOf M ≡ convertible → isPair (M .parties) a b ≡ true
+      → permitCall f (bytesOf M) a b ≡ yesOrNo (permitted M (pair a b))
   unfolding bytesOf listOf
   permits-back a b v p = permit-of-mined f e refl v a b p
 
-  table-back : (a b : ℕ) → a < 32 → b < 32 → verdictOf (matterOf f) ≡ convertible
-      → getD (tableOf (matterOf f)) (32 * a + b) 0 ≡ oneIf (isPair (matterOf f .parties) a b && permitted (matterOf f) (pair a b))
+  table-back : (a b : ℕ) → a < 32 → b < 32 → verdictOf M ≡ convertible
+      → getD (tableOf M) (32 * a + b) 0 ≡ oneIf (isPair (M .parties) a b && permitted M (pair a b))
   unfolding listOf
   table-back a b p q v =
-      table-at (matterOf f) a b p q
-      ∙ by-test (isPair (matterOf f .parties) a b)
+      table-at M a b p q
+      ∙ by-test (isPair (M .parties) a b)
       (λ t. rw (
         t,
-        mined-converts (matterOf f) refl v .any .exact (pair a b)
-            (pairs-in (matterOf f .parties) (pair a b) (pair-of (matterOf f .parties) a b t)),
+        mined-converts M refl v .any .exact (pair a b)
+            (pairs-in (M .parties) (pair a b) (pair-of (M .parties) a b t)),
       ))
       (λ t. rw t)
 
@@ -294,23 +298,23 @@ module _ (f : List ℕ) (e : checkOf f ≡ Accepted) where
   unfolding miningCall miningIn
   mining-exact k v scratch output s o =
       let r = convertible-verdict k v in
-      let z : length (bytesOf (matterOf f)) ≡ k = r .1 in
-      let a : miningCall f (length scratch) (length output) ≡ writesList (tableOf (matterOf f)) (bytesOf (matterOf f)) =
-      rw (e, le-leb 1024 (length scratch) s, r .0, le-leb (length (bytesOf (matterOf f))) (length output) (omega arith)) in
+      let z : length (bytesOf M) ≡ k = r .1 in
+      let a : miningCall f (length scratch) (length output) ≡ writesList (tableOf M) (bytesOf M) =
+      rw (e, le-leb 1024 (length scratch) s, r .0, le-leb (length (bytesOf M)) (length output) (omega arith)) in
       record {
         answer = a;
         reply = rw a (ap Wrote z);
         size = z;
-        written = rw a (ap (λ (i : ℕ). bytesOf (matterOf f) ++ drop i output) z);
+        written = rw a (ap (λ (i : ℕ). bytesOf M ++ drop i output) z);
         permits = λ i j p. permits-back i j (r .0) p;
         table = λ i j p q.
-            rw a (List·getD-append (tableOf (matterOf f)) (drop 1024 scratch) 0 (32 * i + j) (omega (arith, table-length (matterOf f)))
+            rw a (List·getD-append (tableOf M) (drop 1024 scratch) 0 (32 * i + j) (omega (arith, table-length M))
             ∙ table-back i j p q (r .0));
       }
 
   -- the numbers in a reply: a length that an output can have, and parties below 32
   pub length-bound : (k : ℕ) → verdictCall f ≡ reply.Convertible k → k ≤ 2 + 992 * 31778
-  length-bound k v = rw (← convertible-verdict k v .1) (bytes-bound (matterOf f) (accepted-limits f e))
+  length-bound k v = rw (← convertible-verdict k v .1) (bytes-bound M (accepted-limits f e))
 
   pub no-word-parties : (x : PairValue) → verdictCall f ≡ reply.NoWord x → (x .first < 32) × (x .second < 32)
   no-word-parties x v = small (no-word-exact x v .0 .isPair)
@@ -325,5 +329,5 @@ module _ (f : List ℕ) (e : checkOf f ≡ Accepted) where
   unfolding miningCall miningIn
   mining-short k v scratch output s o =
       let r = convertible-verdict k v in
-      let z : length (bytesOf (matterOf f)) ≡ k = r .1 in
-      rw (e, le-leb 1024 scratch s, r .0, lt-leb (length (bytesOf (matterOf f))) output (omega arith))
+      let z : length (bytesOf M) ≡ k = r .1 in
+      rw (e, le-leb 1024 scratch s, r .0, lt-leb (length (bytesOf M)) output (omega arith))

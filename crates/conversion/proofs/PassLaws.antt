@@ -10,38 +10,38 @@ use Rattle.lists.specs.Lists.{anyOf, firstBy, flatMap}
 use Rattle.lists.proofs.Cases.{by-test, clash, and-left, and-right, and-false}
 use Rattle.lists.proofs.OrderLaws.{length-map}
 use Rattle.lists.proofs.Pointwise.{map-append}
-use Rattle.masks.specs.Table.{maskIn}
+use Rattle.masks.specs.promises.Table.{maskIn}
 use Rattle.masks.specs.declared.Row.{Row}
 use Rattle.masks.proofs.MaskLaws.{zero-bit}
-use Rattle.rebac.specs.Matter.{Matter, Pair, pair}
+use Rattle.rebac.specs.Matter.{Matter, Pair}
 use Rattle.rebac.specs.Words.{Word}
 use Rattle.rebac.specs.Rules.{Problem, Term, RuleList, permits}
 use Rattle.rebac.specs.Verdict.{Verdict, convertible, noWord, rivalled, wordsOf, ruling, rival, judge, verdict}
 use Rattle.rebac.specs.Mining.{termOf, mineFrom, mine}
-use Rattle.rebac.specs.WhileMining.{passing, verdictFrom}
+use Rattle.rebac.specs.promises.WhileMining.{passing, verdictFrom}
 use Rattle.rebac.specs.Existence.{plainTerm, plainList}
 use Rattle.rebac.proofs.PairsLaws.{pairs-in}
 use Rattle.rebac.proofs.MiningLaws.{term-owned}
 use Rattle.rebac.proofs.VerdictLaws.{verdict-out}
 use Rattle.rebac.proofs.WhileMining.{judge-from, verdict-while-mining}
 use Rattle.graph.specs.declared.Archive.{Archive}
-use Rattle.graph.specs.Archive.{Shows}
+use Rattle.graph.specs.promises.Archive.{Shows}
 use Rattle.graph.specs.Legal.{isPair}
 use Rattle.graph.proofs.LegalLaws.{pair-of}
 use Rattle.fields.specs.Numbers.{u16Bytes}
 use Rattle.rule_bytes.specs.ListBytes.{encodeTerm, encodeList}
 use Rattle.fields.proofs.NumberLaws.{u16-size}
 use Rattle.rule_bytes.proofs.RoundTrip.{terms-more}
-use Rattle.mining.specs.Pairs.{pairAt, isPairAt, pairsFrom}
-use Rattle.mining.specs.Building.{problemIn, named, encodedTerm, termBytes}
-use Rattle.mining.specs.Taking.{Marks, due, JudgedAs}
-use Rattle.mining.specs.declared.take.Taken.{Taken}
-use Rattle.mining.specs.declared.take.Judgment.the-variants.{Fit, Wordless, Rivalled}
+use Rattle.mining.specs.promises.Pairs.{pairAt, isPairAt, pairsFrom}
+use Rattle.mining.specs.promises.Building.{problemIn, encodedTerm, termBytes, OutcomeAs}
+use Rattle.mining.specs.Values.{pairValue}
+use Rattle.mining.specs.promises.Taking.{PairMarks, due, DueQuery}
+use Rattle.mining.specs.declared.build.Outcome.the-variants.{NoWord, Rival}
 use Rattle.mining.specs.declared.build.Pair.{Pair as PairValue}
 use Rattle.mining.proofs.GridLaws.{pairs-numbered, pairs-skip, pairs-take, pairs-end}
-use Rattle.mining.proofs.ArchiveLaws.{problem-pairs, few-words, owned-fits}
+use Rattle.mining.proofs.ArchiveLaws.{problem-pairs, words-bounded, owned-fits}
 use Rattle.conversion.proofs.SizeLaws.{term-bound}
-use Rattle.conversion.specs.Passes.{archiveBytes}
+use Rattle.conversion.specs.promises.Passes.{archiveBytes}
 
 -- one pair of the definitions' lists
 module _ {P W : Type 0} (S : Problem P W) (r : RuleList W) (p : P) (ps : List P) where
@@ -62,7 +62,7 @@ module _ {P W : Type 0} (S : Problem P W) (r : RuleList W) (p : P) (ps : List P)
   unfolding verdictFrom
   verdict-take e = rw (e, judge-from S p, verdictFrom) refl
 
--- a judgment names its own pair
+-- a pair's verdict names the pair
 module _ {P W : Type 0} (S : Problem P W) (p : P) where
   names-no-word : (ws : List W) (o : Option P) {x : P} → ruling S p ws o ≡ noWord x → x ≡ p
   names-no-word [] o e = sym (cc e)
@@ -111,153 +111,189 @@ terms-grow S r (p ∷ ps) =
     (λ e. rw (e, mineFrom) (omega (arith, terms-grow S (r ++ (termOf S p ∷ [])) ps, terms-add-size r (termOf S p))))
     (λ e. rw (e, mineFrom) (terms-grow S r ps))
 
-pub term-fits : (M : Matter) (a : Archive) → Shows M a → (p : Pair) → length (termBytes a p) ≤ 31778
+pub term-fits : {M : Matter} {a : Archive} → Shows M a → (p : Pair) → length (termBytes a p) ≤ 31778
 unfolding termBytes
-term-fits M a s p =
-    let f = owned-fits M a s p (termOf (problemIn a) p) (term-owned (problemIn a) p) (few-words M a s p) in
-    term-bound (plainTerm (termOf (problemIn a) p))
-    (omega (arith, length-map (λ i. i .word) (termOf (problemIn a) p), few-words M a s p)) (λ w m. f .words w m .len)
+term-fits {a = a} s p =
+    let t = termOf (problemIn a) p in
+    let f = owned-fits s p t (term-owned (problemIn a) p) (words-bounded s p) in
+    term-bound (plainTerm t) (omega (arith, length-map (λ i. i .word) t, words-bounded s p)) (λ w m. f .words w m .len)
 
 -- before the pair of number k: the list so far, its marks and its size
 pub record Passing (a : Archive) (list : RuleList Word) (row : Row) (size k : ℕ) : Type 0 where
-  pub marks : Marks a list row
+  pub parties : a .parties ≤ 32
+  pub marks : PairMarks a list row
   pub mined : mineFrom (problemIn a) list (pairsFrom (a .parties) k) ≡ mine (problemIn a)
-  pub judged : verdictFrom (problemIn a) list (pairsFrom (a .parties) k) ≡ verdict (problemIn a)
+  pub verdict : verdictFrom (problemIn a) list (pairsFrom (a .parties) k) ≡ verdict (problemIn a)
   pub sized : size ≡ 2 + length (termsOf list)
   pub bound : size ≤ 2 + k * 31778
-  pub few : length list ≤ k
+  pub bounded : length list ≤ k
 
-pub pass-start : (a : Archive) → a .parties ≤ 32 → (row : Row) → ((v : ℕ) → maskIn row v ≡ 0) → Passing a [] row 2 0
+pub pass-start : {a : Archive} {row : Row} → a .parties ≤ 32 → ((v : ℕ) → maskIn row v ≡ 0) → Passing a [] row 2 0
 unfolding mine permits anyOf flatMap
-pass-start a few row h =
-    let n : pairsFrom (a .parties) 0 ≡ problemIn a .pairs = pairs-numbered (a .parties) few ∙ sym (problem-pairs a) in
+pass-start {a} parties h =
+    let n : pairsFrom (a .parties) 0 ≡ problemIn a .pairs = pairs-numbered (a .parties) parties ∙ sym (problem-pairs a) in
     record {
+      parties = parties;
       marks = λ u v. rw (h u, zero-bit v) (sym (and-false (isPair (a .parties) u v) refl));
       mined = rw n refl;
-      judged = rw n (verdict-while-mining (problemIn a));
+      verdict = rw n (verdict-while-mining (problemIn a));
       sized = refl;
       bound = omega arith;
-      few = omega arith;
+      bounded = omega arith;
     }
 
-module _ (a : Archive) (l : RuleList Word) (row : Row) (size k : ℕ) (h : k < 1024) (P : Passing a l row size k) where
+module _ {a : Archive} {l : RuleList Word} {row : Row} {size k : ℕ} (P : Passing a l row size k) where
+  pub pass-small : k < 32 * a .parties → k < 1024
+  pass-small turn = omega (arith, P .parties)
+
   -- the pair is passed over
-  pub pass-over : due a l k ≡ false → Passing a l row size (k + 1)
+  pub pass-over : k < 32 * a .parties → due a l k ≡ false → Passing a l row size (k + 1)
   unfolding due
-  pass-over e =
+  pass-over turn e =
       by-test (isPairAt (a .parties) k)
       (λ i.
       let f : (problemIn a .permitted (pairAt k) && not (permits (problemIn a) l (pairAt k))) ≡ false = rw i at e in
       record {
+        parties = P .parties;
         marks = P .marks;
         mined =
             sym (mine-pass (problemIn a) l (pairAt k) (pairsFrom (a .parties) (k + 1)) f)
-            ∙ (rw (pairs-take (a .parties) k h i) at (P .mined));
-        judged =
+            ∙ (rw (pairs-take (a .parties) k (pass-small turn) i) at (P .mined));
+        verdict =
             sym (verdict-pass (problemIn a) l (pairAt k) (pairsFrom (a .parties) (k + 1)) f)
-            ∙ (rw (pairs-take (a .parties) k h i) at (P .judged));
+            ∙ (rw (pairs-take (a .parties) k (pass-small turn) i) at (P .verdict));
         sized = P .sized;
         bound = omega (arith, P .bound);
-        few = omega (arith, P .few);
+        bounded = omega (arith, P .bounded);
       })
       (λ i. record {
+        parties = P .parties;
         marks = P .marks;
-        mined = rw (pairs-skip (a .parties) k h i) at (P .mined);
-        judged = rw (pairs-skip (a .parties) k h i) at (P .judged);
+        mined = rw (pairs-skip (a .parties) k (pass-small turn) i) at (P .mined);
+        verdict = rw (pairs-skip (a .parties) k (pass-small turn) i) at (P .verdict);
         sized = P .sized;
         bound = omega (arith, P .bound);
-        few = omega (arith, P .few);
+        bounded = omega (arith, P .bounded);
       })
 
-  module _ (e : due a l k ≡ true) where
-    its-pair : isPairAt (a .parties) k ≡ true
-    unfolding due
-    its-pair = and-left (isPairAt (a .parties) k) _ e
+  -- the list so far is part of the whole
+  pub pass-size : size ≤ length (archiveBytes a)
+  unfolding archiveBytes
+  pass-size =
+      let g = terms-grow (problemIn a) l (pairsFrom (a .parties) k) in
+      let s = ap (λ (r : RuleList Word). length (termsOf r)) (P .mined) in
+      omega (arith, P .sized, g, s, list-length (mine (problemIn a)))
 
-    its-test : (problemIn a .permitted (pairAt k) && not (permits (problemIn a) l (pairAt k))) ≡ true
-    unfolding due
-    its-test = and-right (isPairAt (a .parties) k) _ e
+  -- past the last pair
+  pub pass-end : 32 * a .parties ≤ k → (l ≡ mine (problemIn a)) × (verdict (problemIn a) ≡ convertible)
+  unfolding mineFrom verdictFrom
+  pass-end past =
+      let e = pairs-end (a .parties) k past in
+      (rw e at (P .mined), sym (rw e at (P .verdict)))
 
-    longer : mineFrom (problemIn a) (l ++ (termOf (problemIn a) (pairAt k) ∷ [])) (pairsFrom (a .parties) (k + 1)) ≡ mine (problemIn a)
-    longer =
-        sym (mine-take (problemIn a) l (pairAt k) (pairsFrom (a .parties) (k + 1)) its-test)
-        ∙ (rw (pairs-take (a .parties) k h its-pair) at (P .mined))
+-- a due pair in its turn
+pub record DueTurn : Type 0 where
+  pub a : Archive
+  pub shown : (M : Matter) × Shows M a
+  pub list : RuleList Word
+  pub row : Row
+  pub size : ℕ
+  pub k : ℕ
+  pub pass : Passing a list row size k
+  pub turn : k < 32 * a .parties
+  pub due : due a list k ≡ true
 
-    onward : passing (problemIn a) (judge (problemIn a) (pairAt k))
-        (verdictFrom (problemIn a) (l ++ (termOf (problemIn a) (pairAt k) ∷ [])) (pairsFrom (a .parties) (k + 1))) ≡ verdict (problemIn a)
-    onward =
-        sym (verdict-take (problemIn a) l (pairAt k) (pairsFrom (a .parties) (k + 1)) its-test)
-        ∙ (rw (pairs-take (a .parties) k h its-pair) at (P .judged))
+module _ (D : DueTurn) where
+  abbrev S : Problem Pair Word
+  S = problemIn (D .a)
 
-    -- it has its term
-    pub pass-term : (M : Matter) → Shows M a → judge (problemIn a) (pairAt k) ≡ convertible → (more : Row)
-        → Marks a (l ++ (termOf (problemIn a) (pairAt k) ∷ [])) more
-        → Passing a (l ++ (termOf (problemIn a) (pairAt k) ∷ [])) more (size + length (termBytes a (pairAt k))) (k + 1)
-    unfolding termBytes
-    pass-term M s j more m = record {
-      marks = m;
-      mined = longer;
-      judged = rw j at onward;
-      sized = omega (arith, P .sized, terms-add-size l (termOf (problemIn a) (pairAt k)));
-      bound = omega (arith, P .bound, term-fits M a s (pairAt k));
-      few = omega (arith, P .few, length-append l (termOf (problemIn a) (pairAt k) ∷ []));
-    }
+  abbrev pub ownPair : Pair
+  ownPair = pairAt (D .k)
 
-    -- there is room for it in the list's bytes
-    pub pass-room : size + length (termBytes a (pairAt k)) ≤ length (archiveBytes a)
-    unfolding termBytes archiveBytes
-    pass-room =
-        let t = termOf (problemIn a) (pairAt k) in
-        let g = terms-grow (problemIn a) (l ++ (t ∷ [])) (pairsFrom (a .parties) (k + 1)) in
-        let s = ap (λ (r : RuleList Word). length (termsOf r)) longer in
-        omega (arith, P .sized, terms-add-size l t, g, s, list-length (mine (problemIn a)))
+  -- its term, and the list with it
+  abbrev own-term : Term Word
+  own-term = termOf S ownPair
 
-    -- where the whole is convertible its judgment is
-    pub pass-fit : verdict (problemIn a) ≡ convertible → judge (problemIn a) (pairAt k) ≡ convertible
-    pass-fit v =
-        let i = pair-of (a .parties) (k / 32) (k % 32) its-pair in
-        verdict-out (problemIn a) v (pairAt k) (rw (problem-pairs a) (pairs-in (a .parties) (pairAt k) i))
-        (and-left (problemIn a .permitted (pairAt k)) _ its-test)
+  abbrev pub listWith : RuleList Word
+  listWith = D .list ++ (own-term ∷ [])
 
-    -- it is in the way
-    stops : (v : Verdict Pair) → (v ≡ convertible → ⊥) → judge (problemIn a) (pairAt k) ≡ v → verdict (problemIn a) ≡ v
-    stops convertible d j = absurd (d refl)
-    stops (noWord x) d j = sym (rw j at onward)
-    stops (rivalled x q) d j = sym (rw j at onward)
+  abbrev later : List Pair
+  later = pairsFrom (D .a .parties) (D .k + 1)
 
-    pub pass-wordless : (at : ℕ) (old new : List ℕ) (t : Taken) (v : Verdict Pair) → judge (problemIn a) (pairAt k) ≡ v
-        → JudgedAs a l k at old new v t
-        → t .judgment ≡ Wordless → verdict (problemIn a) ≡ noWord (pairAt k)
-    pass-wordless at old new t convertible j f e = clash (cc (sym (f .0) ∙ e))
-    pass-wordless at old new t (noWord x) j f e =
-        stops (noWord x) (λ q. clash (cc q)) j ∙ ap noWord (own-no-word (problemIn a) (pairAt k) j)
-    pass-wordless at old new t (rivalled x q) j f e = clash (cc (sym f ∙ e))
+  pair-legal : isPairAt (D .a .parties) (D .k) ≡ true
+  unfolding due
+  pair-legal = and-left (isPairAt (D .a .parties) (D .k)) _ (D .due)
 
-    pub pass-rival : (at : ℕ) (old new : List ℕ) (t : Taken) (r : PairValue) (v : Verdict Pair) → judge (problemIn a) (pairAt k) ≡ v
-        → JudgedAs a l k at old new v t
-        → t .judgment ≡ Rivalled r → (q : Pair) × ((verdict (problemIn a) ≡ rivalled (pairAt k) q) × (r ≡ named q))
-    pass-rival at old new t r convertible j f e = clash (cc (sym (f .0) ∙ e))
-    pass-rival at old new t r (noWord x) j f e = clash (cc (sym f ∙ e))
-    pass-rival at old new t r (rivalled x q) j f e =
-        let o = own-rival (problemIn a) (pairAt k) j in
-        (q, (stops (rivalled x q) (λ z. clash (cc z)) j ∙ ap (λ (y : Pair). rivalled y q) o, cc (sym e ∙ f)))
+  meets-test : (S .permitted ownPair && not (permits S (D .list) ownPair)) ≡ true
+  unfolding due
+  meets-test = and-right (isPairAt (D .a .parties) (D .k)) _ (D .due)
 
-    pub pass-judged : (at : ℕ) (old new : List ℕ) (t : Taken) (v : Verdict Pair) → JudgedAs a l k at old new v t → t .judgment ≡ Fit
-        → v ≡ convertible
-    pass-judged at old new t convertible f e = refl
-    pass-judged at old new t (noWord x) f e = clash (cc (sym f ∙ e))
-    pass-judged at old new t (rivalled x q) f e = clash (cc (sym f ∙ e))
+  split : pairsFrom (D .a .parties) (D .k) ≡ ownPair ∷ later
+  split = pairs-take (D .a .parties) (D .k) (pass-small (D .pass) (D .turn)) pair-legal
 
--- the list so far is part of the whole
-pub pass-size : (a : Archive) (l : RuleList Word) (row : Row) (size k : ℕ) → Passing a l row size k → size ≤ length (archiveBytes a)
-unfolding archiveBytes
-pass-size a l row size k P =
-    let g = terms-grow (problemIn a) l (pairsFrom (a .parties) k) in
-    let s = ap (λ (r : RuleList Word). length (termsOf r)) (P .mined) in
-    omega (arith, P .sized, g, s, list-length (mine (problemIn a)))
+  longer : mineFrom S listWith later ≡ mine S
+  longer = sym (mine-take S (D .list) ownPair later meets-test) ∙ (rw split at (D .pass .mined))
 
--- past the last pair
-pub pass-end : (a : Archive) (l : RuleList Word) (row : Row) (size k : ℕ) → 32 * a .parties ≤ k → Passing a l row size k
-    → (l ≡ mine (problemIn a)) × (verdict (problemIn a) ≡ convertible)
-unfolding mineFrom verdictFrom
-pass-end a l row size k past P = (rw (pairs-end (a .parties) k past) at (P .mined), sym (rw (pairs-end (a .parties) k past) at (P .judged)))
+  onward : passing S (judge S ownPair) (verdictFrom S listWith later) ≡ verdict S
+  onward = sym (verdict-take S (D .list) ownPair later meets-test) ∙ (rw split at (D .pass .verdict))
+
+  -- what its turn needs
+  pub due-query : (at size : ℕ) → at + length (termBytes (D .a) ownPair) ≤ size → DueQuery (D .a) (D .row) (D .k) at size
+  due-query at size room = record {
+    number = pass-small (D .pass) (D .turn);
+    shown = D .shown;
+    list = D .list;
+    marks = D .pass .marks;
+    due = D .due;
+    room = room;
+  }
+
+  -- it has its term
+  pub pass-term : judge S ownPair ≡ convertible → (more : Row) → PairMarks (D .a) listWith more
+      → Passing (D .a) listWith more (D .size + length (termBytes (D .a) ownPair)) (D .k + 1)
+  unfolding termBytes
+  pass-term j more m = record {
+    parties = D .pass .parties;
+    marks = m;
+    mined = longer;
+    verdict = rw j at onward;
+    sized = omega (arith, D .pass .sized, terms-add-size (D .list) own-term);
+    bound = omega (arith, D .pass .bound, term-fits (D .shown .1) ownPair);
+    bounded = omega (arith, D .pass .bounded, length-append (D .list) (own-term ∷ []));
+  }
+
+  -- there is room for it in the list's bytes
+  pub pass-room : D .size + length (termBytes (D .a) ownPair) ≤ length (archiveBytes (D .a))
+  unfolding termBytes archiveBytes
+  pass-room =
+      let g = terms-grow S listWith later in
+      let s = ap (λ (r : RuleList Word). length (termsOf r)) longer in
+      omega (arith, D .pass .sized, terms-add-size (D .list) own-term, g, s, list-length (mine S))
+
+  -- where the whole is convertible the pair is
+  pub pass-convertible : verdict S ≡ convertible → judge S ownPair ≡ convertible
+  pass-convertible v =
+      let i = pair-of (D .a .parties) (D .k / 32) (D .k % 32) pair-legal in
+      verdict-out S v ownPair (rw (problem-pairs (D .a)) (pairs-in (D .a .parties) ownPair i))
+      (and-left (S .permitted ownPair) _ meets-test)
+
+  -- it is in the way
+  stops : (v : Verdict Pair) → (v ≡ convertible → ⊥) → judge S ownPair ≡ v → verdict S ≡ v
+  stops convertible d j = absurd (d refl)
+  stops (noWord x) d j = sym (rw j at onward)
+  stops (rivalled x q) d j = sym (rw j at onward)
+
+  module _ (at : ℕ) (old new : List ℕ) where
+    pub pass-no-word : (v : Verdict Pair) → judge S ownPair ≡ v → OutcomeAs (D .a) ownPair at old new v NoWord
+        → verdict S ≡ noWord ownPair
+    pass-no-word convertible j o = clash (cc (o .0))
+    pass-no-word (noWord x) j o = stops (noWord x) (λ q. clash (cc q)) j ∙ ap noWord (own-no-word S ownPair j)
+    pass-no-word (rivalled x q) j o = clash (cc o)
+
+    pub pass-rival : (r : PairValue) (v : Verdict Pair) → judge S ownPair ≡ v → OutcomeAs (D .a) ownPair at old new v (Rival r)
+        → (q : Pair) × ((verdict S ≡ rivalled ownPair q) × (r ≡ pairValue q))
+    pass-rival r convertible j o = clash (cc (o .0))
+    pass-rival r (noWord x) j o = clash (cc o)
+    pass-rival r (rivalled x q) j o =
+        let e = own-rival S ownPair j in
+        (q, (stops (rivalled x q) (λ z. clash (cc z)) j ∙ ap (λ (y : Pair). rivalled y q) e, cc o))

@@ -20,8 +20,13 @@ sum-bound g c (x ∷ l) h = omega (arith, h x (List·Memᴰ·head refl), sum-bou
 
 pub term-bound : (t : List Word) → length t ≤ 993 → ((w : Word) → List·Memᴰ w t → length w ≤ 31) → length (encodeTerm t) ≤ 31778
 unfolding encodeTerm u16Bytes encodeWord
-term-bound t n h = omega (arith, length-append (u16Bytes (length t)) (flatMap encodeWord t), length-flat encodeWord t, sum-bound (λ w. length (encodeWord w)) 32 t (λ w m. omega (arith, h w m)))
+term-bound t n h =
+    let s = sum-bound (λ w. length (encodeWord w)) 32 t (λ w m. omega (arith, h w m)) in
+    omega (arith, length-append (u16Bytes (length t)) (flatMap encodeWord t), length-flat encodeWord t, s)
 
-pub list-bound : (l : List (List Word)) → length l ≤ 992 → ((t : List Word) → List·Memᴰ t l → length (encodeTerm t) ≤ 31778) → length (encodeList l) ≤ 2 + 992 * 31778
+pub list-bound : (l : List (List Word)) → length l ≤ 992 → ((t : List Word) → List·Memᴰ t l → length (encodeTerm t) ≤ 31778)
+    → length (encodeList l) ≤ 2 + 992 * 31778
 unfolding encodeList u16Bytes
-list-bound l n h = omega (arith, length-append (u16Bytes (length l)) (flatMap encodeTerm l), length-flat encodeTerm l, sum-bound (λ t. length (encodeTerm t)) 31778 l h)
+list-bound l n h =
+    let s = sum-bound (λ t. length (encodeTerm t)) 31778 l h in
+    omega (arith, length-append (u16Bytes (length l)) (flatMap encodeTerm l), length-flat encodeTerm l, s)

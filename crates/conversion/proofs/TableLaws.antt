@@ -8,14 +8,14 @@ use lib.ListN.{length, drop, set, replicate}
 use Rattle.lists.specs.Lists.{range, upFrom}
 use Rattle.lists.proofs.OrderLaws.{length-map}
 use Rattle.lists.proofs.Pointwise.{up-append, map-same, map-append}
-use Rattle.masks.specs.Mask.{testBit}
-use Rattle.masks.specs.Table.{maskIn}
+use Rattle.masks.specs.promises.Mask.{testBit}
+use Rattle.masks.specs.promises.Table.{maskIn}
 use Rattle.masks.specs.declared.Row.{Row}
 use Rattle.masks.proofs.MaskLaws.{zero-bit}
-use Rattle.fields.specs.Writing.{put}
+use Rattle.fields.specs.promises.Writing.{put}
 use Rattle.fields.proofs.PutLaws.{put-more, put-first}
 use Rattle.conversion.specs.Calls.{oneIf, clearTable}
-use Rattle.conversion.specs.Passes.{rowBytes}
+use Rattle.conversion.specs.promises.Passes.{rowBytes}
 use Rattle.lists.proofs.ListLaws.{up-length}
 
 -- the byte of number k
@@ -34,13 +34,16 @@ bytes-more : (r : Row) (k : ℕ) → bytesTo r (k + 1) ≡ bytesTo r k ++ (byteA
 unfolding bytesTo range upFrom
 bytes-more r k =
     let z : 0 + k ≡ k = omega arith in
-    ap (map (byteAt r)) (up-append 0 k 1) ∙ map-append (byteAt r) (upFrom 0 k) (upFrom (0 + k) 1) ∙ ap (λ (i : ℕ). map (byteAt r) (upFrom 0 k) ++ (byteAt r i ∷ [])) z
+    ap (map (byteAt r)) (up-append 0 k 1)
+    ∙ map-append (byteAt r) (upFrom 0 k) (upFrom (0 + k) 1)
+    ∙ ap (λ (i : ℕ). map (byteAt r) (upFrom 0 k) ++ (byteAt r i ∷ [])) z
 
 pub table-start : (b : List ℕ) (r : Row) → b ≡ put b 0 (bytesTo r 0)
 unfolding bytesTo range upFrom put
 table-start b r = refl
 
-pub table-more : (b out : List ℕ) (r : Row) (k v : ℕ) → k < length b → out ≡ put b 0 (bytesTo r k) → v ≡ byteAt r k → set out k v ≡ put b 0 (bytesTo r (k + 1))
+pub table-more : (b out : List ℕ) (r : Row) (k v : ℕ) → k < length b → out ≡ put b 0 (bytesTo r k) → v ≡ byteAt r k
+    → set out k v ≡ put b 0 (bytesTo r (k + 1))
 table-more b out r k v h e q =
     let n = bytes-length r k in
     ap (λ (l : List ℕ). set l k v) e
@@ -64,6 +67,7 @@ unfolding rowBytes clearTable range
 clear-bytes r h = zeros-of r h 0 1024
 
 -- the bytes of marks, by what they are marks of
-pub marks-bytes : (r : Row) (f : ℕ → Bool) → ((k : ℕ) → testBit (maskIn r (k / 32)) (k % 32) ≡ f k) → rowBytes r ≡ map (λ k. oneIf (f k)) (range 1024)
+pub marks-bytes : (r : Row) (f : ℕ → Bool) → ((k : ℕ) → testBit (maskIn r (k / 32)) (k % 32) ≡ f k)
+    → rowBytes r ≡ map (λ k. oneIf (f k)) (range 1024)
 unfolding rowBytes
 marks-bytes r f h = map-same (byteAt r) (λ k. oneIf (f k)) (range 1024) (λ k m. ap oneIf (h k))

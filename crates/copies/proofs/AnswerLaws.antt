@@ -6,23 +6,23 @@ use Prim.Native.Nat.{ℕ}
 use Rattle.house_layout.specs.declared.reply.Check.the-variants.{Accepted}
 use Rattle.house_file.specs.Check.{checkOf}
 use Rattle.house_file.specs.Meaning.{IsEdition}
-use Rattle.graph.specs.Archive.{matterOf}
+use Rattle.graph.specs.FileMatter.{matterOf}
 use Rattle.paths.specs.Calls as path
-use Rattle.rules.specs.Permit.{permitReply}
+use Rattle.rules.specs.Permit.{permitCall}
 use Rattle.conversion.specs.Calls as conversion
 use Rattle.canonical.specs.Calls as canonical
 use Rattle.canonical.specs.Canonical.{canonicalOf}
 use Rattle.canonical.specs.Shape.{SameMatter}
 use Rattle.canonical.proofs.FileLaws.{accepted-matter}
 use Rattle.canonical.proofs.CopyLaws.{same-matter, canonical-file, write-copies}
-use Rattle.comparison.specs.Compare.{compareReply}
+use Rattle.comparison.specs.Compare.{compareCall}
 use Rattle.report.specs.Report.{fileText}
 use Rattle.copies.specs.Answers.{AnswersAs}
 
 -- two files with one check's reply and one matter
 pub same-answers : (f g : List ℕ) → checkOf g ≡ checkOf f → matterOf g ≡ matterOf f → AnswersAs f g
-unfolding conversion.verdictCall conversion.miningCall path.pathCall path.nextCall permitReply
-    compareReply canonical.copyFor canonical.writeCall fileText
+unfolding conversion.verdictCall conversion.miningCall path.pathCall path.nextCall permitCall
+    compareCall canonical.writeCall fileText
 same-answers f g c m = record {
   check = c;
   verdict = rw (c, m);

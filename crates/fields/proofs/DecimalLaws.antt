@@ -8,7 +8,7 @@ use lib.Dec.{ltb}
 use lib.ListN.{length, set, length-append}
 use borrow.Author.Tests.{lt-ltb, le-ltb, ltb-true, ltb-false}
 use Rattle.lists.proofs.Cases.{by-test}
-use Rattle.fields.specs.Writing.{Wrote}
+use Rattle.fields.specs.promises.Writing.{Wrote}
 use Rattle.fields.specs.Decimal.{digitsIn, decimalText}
 use Rattle.fields.proofs.PutLaws.{put-one, then-one}
 
@@ -28,7 +28,9 @@ decimal-small n h = rw (lt-ltb n 10 h)
 
 pub decimal-more : (n : ℕ) → 10 ≤ n → decimalText n ≡ decimalText (n / 10) ++ ((48 + n % 10) ∷ [])
 unfolding decimalText digitsIn
-decimal-more n h = rw (le-ltb n 10 h) (ap (λ (l : List ℕ). l ++ ((48 + n % 10) ∷ [])) (digits-same n (suc (n / 10)) (n / 10) (omega arith) (omega arith)))
+decimal-more n h =
+    let same : digitsIn n (n / 10) ≡ digitsIn (suc (n / 10)) (n / 10) = digits-same n (suc (n / 10)) (n / 10) (omega arith) (omega arith) in
+    rw (le-ltb n 10 h) (ap (λ (l : List ℕ). l ++ ((48 + n % 10) ∷ [])) same)
 
 pub decimal-room : (n : ℕ) → 10 ≤ n → length (decimalText n) ≡ length (decimalText (n / 10)) + 1
 decimal-room n h = ap length (decimal-more n h) ∙ length-append (decimalText (n / 10)) ((48 + n % 10) ∷ [])
@@ -39,7 +41,16 @@ decimal-length zero n h = let e : 10 ^ 1 ≡ 10 = refl in rw (decimal-small n (o
 decimal-length (suc k) n h =
     by-test (ltb n 10)
     (λ e. rw (decimal-small n (ltb-true n 10 e)) (omega arith))
-    (λ e. let l : 10 ≤ n = ltb-false n 10 e in omega (arith, decimal-room n l, decimal-length k (n / 10) (omega (arith, pow-suc 10 (suc k)))))
+    (λ e.
+    let l : 10 ≤ n = ltb-false n 10 e in
+    omega (arith, decimal-room n l, decimal-length k (n / 10) (omega (arith, pow-suc 10 (suc k)))))
+
+-- where the digits fit, so does the one digit, and the last of several
+pub one-fits : (size at n : ℕ) → n < 10 → at + length (decimalText n) ≤ size → at < size
+one-fits size at n h l = omega (arith, ap length (decimal-small n h))
+
+pub last-fits : (size at n end : ℕ) → 10 ≤ n → at + length (decimalText n) ≤ size → end ≡ at + length (decimalText (n / 10)) → end < size
+last-fits size at n end h l e = omega (arith, decimal-room n h)
 
 -- the digits written: one, or one more
 pub decimal-one : (b : List ℕ) (at n : ℕ) → n < 10 → at < length b → Wrote b at (decimalText n) (set b at (48 + n)) (at + 1)
@@ -49,4 +60,7 @@ pub decimal-next : (b : List ℕ) (at n : ℕ) (out : List ℕ) (end : ℕ) → 
     → Wrote b at (decimalText n) (set out end (48 + n % 10)) (end + 1)
 decimal-next b at n out end h w l =
     rw (decimal-more n h)
-    (record { bytes = then-one b at (decimalText (n / 10)) out end (w .bytes) (w .place) (48 + n % 10) l; place = omega (arith, length-append (decimalText (n / 10)) ((48 + n % 10) ∷ [])) })
+    (record {
+      bytes = then-one b at (decimalText (n / 10)) out end (w .bytes) (w .place) (48 + n % 10) l;
+      place = omega (arith, length-append (decimalText (n / 10)) ((48 + n % 10) ∷ []));
+    })

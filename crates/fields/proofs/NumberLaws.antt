@@ -14,6 +14,7 @@ pub u16-read : (f : List ℕ) (at x : ℕ) → byteAt f at ≡ x % 256 → byteA
 unfolding u16At
 u16-read f at x a b = rw (a, b) (omega arith)
 
-pub u16-same : (f g : List ℕ) → Bytes f → Bytes g → (at : ℕ) → u16At f at ≡ u16At g at → (byteAt f at ≡ byteAt g at) × (byteAt f (at + 1) ≡ byteAt g (at + 1))
+pub u16-same : (f g : List ℕ) → Bytes f → Bytes g → (at : ℕ) → u16At f at ≡ u16At g at
+    → (byteAt f at ≡ byteAt g at) × (byteAt f (at + 1) ≡ byteAt g (at + 1))
 unfolding u16At
 u16-same f g b d at e = (omega (arith, b at, d at, b (at + 1), d (at + 1)), omega (arith, b at, d at, b (at + 1), d (at + 1)))

@@ -1,3 +1,3 @@
 pub mod Numbers
-pub mod Writing
 pub mod Decimal
+pub mod promises

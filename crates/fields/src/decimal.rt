@@ -2,7 +2,7 @@
 ghost use Prim.Native.Nat.{_+_, _≤_};
 ghost use lib.ListN.{length};
 ghost use Rattle.fields.specs.Decimal.{decimalText};
-ghost use Rattle.fields.specs.Writing.{Wrote};
+ghost use Rattle.fields.specs.promises.Writing.{Wrote};
 
 // The decimal digits of n: those of n / 10, then the last one.
 pub fn put_decimal(out: &mut [u8], at: usize, n: usize) -> usize

@@ -3,7 +3,7 @@ ghost use mathlib.Core.Path.{_≡_};
 ghost use Prim.Native.Nat.{_+_, _≤_, _<_};
 ghost use lib.ListN.{length};
 ghost use Rattle.fields.specs.Numbers.{u16Bytes};
-ghost use Rattle.fields.specs.Writing.{put, Wrote};
+ghost use Rattle.fields.specs.promises.Writing.{put, Wrote};
 
 // Two bytes, the low one first.
 pub fn put_u16(out: &mut [u8], at: usize, x: usize)

@@ -9,12 +9,12 @@ use lib.Dec.{eqb, ltb}
 use borrow.Author.Tests.{lt-ltb, le-ltb, eq-eqb, ne-eqb}
 use Rattle.lists.specs.Lists.{anyOf, member}
 use Rattle.lists.proofs.Cases.{by-test, and-false}
-use Rattle.masks.specs.Table.{maskAt}
+use Rattle.masks.specs.promises.Table.{maskAt}
 use Rattle.masks.specs.declared.Table.{Table}
 use Rattle.rebac.specs.Matter.{Matter}
 use Rattle.rebac.specs.Symbols.{kinds, kindHolds, apart, inLanguage, holds}
 use Rattle.house_layout.specs.declared.header.Header.{Header}
-use Rattle.graph.specs.Archive.{kindIn, symbolIn, Records}
+use Rattle.graph.specs.promises.Archive.{kindIn, symbolIn, Records}
 
 -- the kinds of each language
 pub kinds-0 : (k : ℕ) → k < 4 → eqb k 0 ≡ member k (kinds 0)
@@ -66,12 +66,14 @@ module _ (M : Matter) (h : Header) (k : Table) (r : Records M h k) (u v : ℕ) w
   same-kind l (suc (suc zero)) e = r .edges v u l e
   same-kind l (suc (suc (suc j))) e = ap not (r .edges v u l e)
 
-  pub symbols-hold : u < M .parties → v < M .parties → (u ≡ v → ⊥) → (s : ℕ) → (ltb s (4 * h .labels) && symbolIn (h .language) (maskAt k u v) (maskAt k v u) s) ≡ holds M u v s
+  pub symbols-hold : u < M .parties → v < M .parties → (u ≡ v → ⊥)
+      → (s : ℕ) → (ltb s (4 * h .labels) && symbolIn (h .language) (maskAt k u v) (maskAt k v u) s) ≡ holds M u v s
   unfolding holds apart inLanguage symbolIn
   symbols-hold a b ne s =
       rw (lt-ltb u (M .parties) a, lt-ltb v (M .parties) b, ne-eqb u v ne, r .labels, r .language)
       (by-cases (decLt (s / 4) (M .labels))
-      (λ l. rw (lt-ltb s (4 * M .labels) (omega arith), lt-ltb (s / 4) (M .labels) l) (ap (λ (x : Bool). member (s % 4) (kinds (M .language)) && x) (same-kind (s / 4) (s % 4) l)))
+      (λ l. rw (lt-ltb s (4 * M .labels) (omega arith), lt-ltb (s / 4) (M .labels) l)
+      (ap (λ (x : Bool). member (s % 4) (kinds (M .language)) && x) (same-kind (s / 4) (s % 4) l)))
       (λ l. rw (le-ltb s (4 * M .labels) (omega arith), le-ltb (s / 4) (M .labels) (omega arith))))
 
 -- nothing holds outside the parties, nor between a party and itself

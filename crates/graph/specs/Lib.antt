@@ -1,3 +1,4 @@
-pub mod Archive
 pub mod Legal
 pub mod Refusals
+pub mod FileMatter
+pub mod promises

@@ -4,12 +4,13 @@ ghost use mathlib.Core.Bool.{_&&_};
 ghost use Prim.Native.Nat.{ℕ, _*_, _≤_, _<_};
 ghost use lib.Dec.{ltb};
 ghost use Rattle.lists.specs.Lists.{member};
-ghost use Rattle.masks.specs.Mask.{testBit};
-ghost use Rattle.masks.specs.Table.{maskIn, maskAt};
+ghost use Rattle.limits.specs.Limits.{mostLabels, lastLanguage, symbolCount};
+ghost use Rattle.masks.specs.promises.Mask.{testBit};
+ghost use Rattle.masks.specs.promises.Table.{maskIn, maskAt};
 ghost use Rattle.rebac.specs.Matter.{Matter};
 ghost use Rattle.rebac.specs.Symbols.{kinds, holds};
 ghost use Rattle.graph.specs.Legal.{isPair, legalSymbol};
-ghost use Rattle.graph.specs.Archive.{symbolIn, Records, LoadedAs};
+ghost use Rattle.graph.specs.promises.Archive.{symbolIn, GraphLimits, Records, LoadedAs};
 use house_layout::Check;
 use house_layout::Header;
 use house_layout::Refusal;
@@ -34,7 +35,7 @@ pub struct Loading {
 
 // Whether a language uses a kind.
 pub fn uses_kind(language: usize, kind: u32) -> bool
-    requires { ⌜ (language ≤ 3) × (kind < 4) ⌝ }
+    requires { ⌜ (language ≤ lastLanguage) × (kind < 4) ⌝ }
     ensures { λ r. ⌜ r ≡ member kind (kinds language) ⌝ }
 {
     if language == 0 {
@@ -63,7 +64,7 @@ pub fn is_pair(n: usize, first: usize, second: usize) -> bool
 
 // Whether a symbol is the language's and its label below L.
 pub fn legal_symbol(labels: usize, language: usize, s: u8) -> bool
-    requires { ⌜ language ≤ 3 ⌝ }
+    requires { ⌜ language ≤ lastLanguage ⌝ }
     ensures { λ r. ⌜ r ≡ legalSymbol labels language s ⌝ }
 {
     if ((s / 4) as usize) < labels {
@@ -74,7 +75,7 @@ pub fn legal_symbol(labels: usize, language: usize, s: u8) -> bool
 
 // Whether a symbol of the language holds, by the labels out and back.
 fn symbol_in(language: usize, out: u32, back: u32, s: u32) -> bool
-    requires { ⌜ (language ≤ 3) × (s < 32) ⌝ }
+    requires { ⌜ (language ≤ lastLanguage) × (s < symbolCount) ⌝ }
     ensures { λ r. ⌜ r ≡ symbolIn language out back s ⌝ }
 {
     let label = s / 4;
@@ -96,7 +97,7 @@ fn symbol_in(language: usize, out: u32, back: u32, s: u32) -> bool
 
 // The symbols that hold, by the labels out and back.
 fn symbols(labels: usize, language: usize, out: u32, back: u32) -> u32
-    requires { ⌜ (labels ≤ 8) × (language ≤ 3) ⌝ }
+    requires { ⌜ (labels ≤ mostLabels) × (language ≤ lastLanguage) ⌝ }
     ensures { λ r. ⌜ ((s : ℕ) → testBit r s ≡ (ltb s (4 * labels) && symbolIn language out back s)) ⌝ }
 {
     let end = (4 * labels) as u32;
@@ -113,7 +114,7 @@ fn symbols(labels: usize, language: usize, out: u32, back: u32) -> u32
 
 // The row of one party.
 fn enlarge_row(h: Header, k: Table, u: usize) -> Row
-    requires { ⌜ (h .parties ≤ 32) × ((h .labels ≤ 8) × ((h .language ≤ 3) × (u < h .parties))) ⌝ }
+    requires { ⌜ GraphLimits h × (u < h .parties) ⌝ }
     ensures { λ r. ⌜ ((M : Matter) → Records M h k → (v s : ℕ) → testBit (maskIn r v) s ≡ holds M u v s) ⌝ }
 {
     let own = k.rows[u];
@@ -135,7 +136,7 @@ fn enlarge_row(h: Header, k: Table, u: usize) -> Row
 
 // The enlarged graph.
 fn enlarge(h: Header, k: Table) -> Table
-    requires { ⌜ (h .parties ≤ 32) × ((h .labels ≤ 8) × (h .language ≤ 3)) ⌝ }
+    requires { ⌜ GraphLimits h ⌝ }
     ensures { λ r. ⌜ ((M : Matter) → Records M h k → (u v s : ℕ) → testBit (maskAt r u v) s ≡ holds M u v s) ⌝ }
 {
     let mut graph = masks::empty_table();

@@ -1,57 +1,56 @@
--- The walk along all chains passes exactly where each chain is right and no record stands in two: by induction on the parties, both ways.
+-- Following all chains passes exactly where each chain is right and no record stands in two: by induction on the parties, both ways.
 -- Assumes nothing.
 use mathlib.Core.Path.{_≡_, refl, sym, ap, _∙_}
 use mathlib.Core.Bool.{true, false}
-use mathlib.Core.Logic.{⊎-elim, by-cases}
-use mathlib.Core.List.{List, [], _++_, append-assoc}
-use mathlib.Core.List.{List·Memᴰ, List·Memᴰ·not-nil, Memᴰ·append-left, Memᴰ·append-right, List·Memᴰ·append-cases, append-nil}
+use mathlib.Core.Logic.{by-cases}
+use mathlib.Core.List.{List, [], _++_, append-assoc, List·Memᴰ, List·Memᴰ·not-nil, Memᴰ·append-left, Memᴰ·append-right, append-nil}
 use Prim.Native.Nat.{ℕ, zero, suc, _+_, _≤_, _<_}
 use native.Mathlib.Decide.{ℕ-discrete}
 use native.Mathlib.Omega.{arith}
 use Rattle.lists.specs.Lists.{anyOf}
 use Rattle.lists.specs.Order.{Distinct}
-use Rattle.lists.proofs.Cases.{both}
+use Rattle.lists.proofs.Cases.{both, by-append}
 use Rattle.lists.proofs.ListLaws.{member-in, member-not}
 use Rattle.house_layout.specs.Layout.{partiesOf, labelsOf, headOf, recordsOf, recordOf}
 use Rattle.house_layout.specs.Fields.{foreign, legalTarget, legalKind}
-use Rattle.house_file.specs.Check.{Walk, stopped, passed, andThen, walkChains}
-use Rattle.house_file.specs.Meaning.{chainOf, Linked}
-use Rattle.house_file.specs.Reading.{chainWalk}
+use Rattle.house_file.specs.Check.{Followed, stopped, passed, andThen, followChains}
+use Rattle.house_file.specs.Meaning.{chainOf, IsChain}
+use Rattle.house_file.specs.promises.Reading.{chainFollowed}
 use Rattle.house_file.proofs.ChainLaws.{unlike}
-use Rattle.house_file.proofs.WalkLaws.{walk-passed, passed-walk}
+use Rattle.house_file.proofs.FollowLaws.{follow-passed, passed-follow}
 
 -- a chain that is right by itself
 pub record RightChain (f : List ℕ) (u : ℕ) : Type 0 where
-  pub linked : Linked f (headOf f u) (chainOf f u)
-  pub own : (s : ℕ) → List·Memᴰ s (chainOf f u) → foreign u (recordOf f s .owner) ≡ false
+  pub linked : IsChain f (headOf f u) (chainOf f u)
+  pub owner : (s : ℕ) → List·Memᴰ s (chainOf f u) → foreign u (recordOf f s .owner) ≡ false
   pub target : (s : ℕ) → List·Memᴰ s (chainOf f u) → legalTarget (partiesOf f) u (recordOf f s .target) ≡ true
   pub kind : (s : ℕ) → List·Memᴰ s (chainOf f u) → legalKind (labelsOf f) (recordOf f s .kind) ≡ true
   pub once : Distinct (chainOf f u)
   pub different : (s t : ℕ) → List·Memᴰ s (chainOf f u) → List·Memᴰ t (chainOf f u)
       → recordOf f s .target ≡ recordOf f t .target → recordOf f s .kind ≡ recordOf f t .kind → s ≡ t
 
--- party u's walk, after the records `before`
-pub chain-passed : (f : List ℕ) (u : ℕ) (before c : List ℕ) → chainWalk f u before ≡ passed c
+-- party u's chain followed, after the records `before`
+pub chain-passed : (f : List ℕ) (u : ℕ) (before c : List ℕ) → chainFollowed f u before ≡ passed c
     → (c ≡ chainOf f u) × (RightChain f u × ((s : ℕ) → List·Memᴰ s (chainOf f u) → List·Memᴰ s before → ⊥))
 unfolding chainOf
 chain-passed f u before c e =
-    let h = walk-passed f u (recordsOf f) before [] (headOf f u) c e in
+    let h = follow-passed f u (recordsOf f) before [] (headOf f u) c e in
     let r = h .right in (
       h .shape,
       (
-        record { linked = r .linked; own = r .own; target = r .target; kind = r .kind; once = r .once; different = r .different },
+        record { linked = r .linked; owner = r .owner; target = r .target; kind = r .kind; once = r .once; different = r .different },
         λ s m n. both (member-in s (before ++ []) (rw (append-nil before) n)) (r .fresh s m),
       ),
     )
 
 pub passed-chain : (f : List ℕ) (u : ℕ) (before : List ℕ) → RightChain f u
     → ((s : ℕ) → List·Memᴰ s (chainOf f u) → List·Memᴰ s before → ⊥)
-    → chainWalk f u before ≡ passed (chainOf f u)
+    → chainFollowed f u before ≡ passed (chainOf f u)
 unfolding chainOf anyOf
 passed-chain f u before h apart =
-    passed-walk f u (recordsOf f) before [] (headOf f u) (record {
+    passed-follow f u (recordsOf f) before [] (headOf f u) (record {
       linked = h .linked;
-      own = h .own;
+      owner = h .owner;
       target = h .target;
       kind = h .kind;
       once = h .once;
@@ -78,12 +77,11 @@ pub chains-out : (f : List ℕ) (u m : ℕ) {s : ℕ} → List·Memᴰ s (chains
 unfolding chainsFrom
 chains-out f u zero n = absurd (List·Memᴰ·not-nil n)
 chains-out f u (suc m) {s} n =
-    ⊎-elim
-    (λ (k : List·Memᴰ s (chainOf f u)). (u, (omega arith, (omega arith, k))))
-    (λ (k : List·Memᴰ s (chainsFrom f (suc u) m)).
+    by-append (chainOf f u) n
+    (λ k. (u, (omega arith, (omega arith, k))))
+    (λ k.
     let r = chains-out f (suc u) m k in
     (r .0, (omega (arith, r .1 .0), (omega (arith, r .1 .1 .0), r .1 .1 .1))))
-    (List·Memᴰ·append-cases (chainOf f u) n)
 
 -- m parties from u on, after the records `before`
 pub record RightChains (f : List ℕ) (u m : ℕ) (before : List ℕ) : Type 0 where
@@ -91,21 +89,22 @@ pub record RightChains (f : List ℕ) (u m : ℕ) (before : List ℕ) : Type 0 w
   pub fresh : (v s : ℕ) → u ≤ v → v < u + m → List·Memᴰ s (chainOf f v) → List·Memᴰ s before → ⊥
   pub apart : (v w s : ℕ) → u ≤ v → v < w → w < u + m → List·Memᴰ s (chainOf f v) → List·Memᴰ s (chainOf f w) → ⊥
 
-then-passed : (w : Walk) (g : List ℕ → Walk) {c : List ℕ} → andThen w g ≡ passed c → (d : List ℕ) × ((w ≡ passed d) × (g d ≡ passed c))
+then-passed : (w : Followed) (g : List ℕ → Followed) {c : List ℕ} → andThen w g ≡ passed c
+    → (d : List ℕ) × ((w ≡ passed d) × (g d ≡ passed c))
 then-passed (stopped x) g e = unlike refl e
 then-passed (passed d) g e = (d, (refl, e))
 
-pub walks-passed : (f : List ℕ) (u m : ℕ) (before all : List ℕ) → walkChains f u m before ≡ passed all
+pub follows-passed : (f : List ℕ) (u m : ℕ) (before all : List ℕ) → followChains f u m before ≡ passed all
     → (all ≡ before ++ chainsFrom f u m) × RightChains f u m before
-unfolding walkChains chainsFrom
-walks-passed f u zero before all e = (
+unfolding followChains chainsFrom
+follows-passed f u zero before all e = (
   cc (append-nil before),
   record { chain = λ v a b. absurd (omega arith); fresh = λ v s a b. absurd (omega arith); apart = λ v w s a b d. absurd (omega arith) },
 )
-walks-passed f u (suc m) before all e =
-    let t = then-passed (chainWalk f u before) (λ c. walkChains f (suc u) m (before ++ c)) e in
+follows-passed f u (suc m) before all e =
+    let t = then-passed (chainFollowed f u before) (λ c. followChains f (suc u) m (before ++ c)) e in
     let p = chain-passed f u before (t .0) (t .1 .0) in
-    let i = walks-passed f (suc u) m (before ++ t .0) all (t .1 .1) in
+    let i = follows-passed f (suc u) m (before ++ t .0) all (t .1 .1) in
     let h = i .1 in (
       i .0 ∙ append-assoc before (t .0) (chainsFrom f (suc u) m) ∙ ap (λ (c : List ℕ). before ++ (c ++ chainsFrom f (suc u) m)) (p .0),
       record {
@@ -119,19 +118,18 @@ walks-passed f u (suc m) before all e =
       },
     )
 
-pub passed-walks : (f : List ℕ) (u m : ℕ) (before : List ℕ) → RightChains f u m before
-    → walkChains f u m before ≡ passed (before ++ chainsFrom f u m)
-unfolding walkChains chainsFrom
-passed-walks f u zero before h = ap passed (sym (append-nil before))
-passed-walks f u (suc m) before h =
+pub passed-follows : (f : List ℕ) (u m : ℕ) (before : List ℕ) → RightChains f u m before
+    → followChains f u m before ≡ passed (before ++ chainsFrom f u m)
+unfolding followChains chainsFrom
+passed-follows f u zero before h = ap passed (sym (append-nil before))
+passed-follows f u (suc m) before h =
     rw (passed-chain f u before (h .chain u (omega arith) (omega arith)) (λ s n. h .fresh u s (omega arith) (omega arith) n))
-    (passed-walks f (suc u) m (before ++ chainOf f u) (record {
+    (passed-follows f (suc u) m (before ++ chainOf f u) (record {
       chain = λ v a b. h .chain v (omega arith) (omega arith);
       fresh = λ v s a b n k.
-          ⊎-elim
-          (λ (j : List·Memᴰ s before). h .fresh v s (omega arith) (omega arith) n j)
-          (λ (j : List·Memᴰ s (chainOf f u)). h .apart u v s (omega arith) (omega arith) (omega arith) j n)
-          (List·Memᴰ·append-cases before k);
+          by-append before k
+          (λ j. h .fresh v s (omega arith) (omega arith) n j)
+          (λ j. h .apart u v s (omega arith) (omega arith) (omega arith) j n);
       apart = λ v w s a b d n k. h .apart v w s (omega arith) b (omega arith) n k;
     })
     ∙ ap passed (append-assoc before (chainOf f u) (chainsFrom f (suc u) m)))

@@ -1,4 +1,4 @@
--- How many of the first n marks are 0: one fewer for each mark set, so a walk that sets one a turn ends. Assumes nothing.
+-- How many of the first n marks are 0: one fewer for each mark set, so a loop that sets one a turn ends. Assumes nothing.
 use mathlib.Core.Path.{_≡_, refl}
 use mathlib.Core.List.{List}
 use mathlib.Core.Logic.{by-cases}

@@ -1,7 +1,8 @@
 pub mod Clear
 pub mod ChainLaws
-pub mod WalkLaws
+pub mod FollowLaws
 pub mod ChainsLaws
+pub mod LinkedLaws
 pub mod WellFormedLaws
 pub mod ReachedLaws
 pub mod DecodeLaws

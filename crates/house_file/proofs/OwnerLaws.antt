@@ -10,17 +10,21 @@ use Rattle.house_layout.specs.declared.record.OwnerByte.the-variants.{Party}
 use Rattle.house_layout.specs.declared.reply.Check.the-variants.{Accepted}
 use Rattle.house_file.specs.Check.{checkOf}
 use Rattle.house_file.specs.Meaning.{chainOf}
+use Rattle.house_file.proofs.LinkedLaws.{records-right}
 use Rattle.house_file.proofs.WellFormedLaws.{accepted-iff-well-formed}
 
 module _ (f : List ℕ) (a : checkOf f ≡ Accepted) (u r : ℕ) (l : u < partiesOf f) (m : List·Memᴰ r (chainOf f u)) where
-  -- in either edition
+  -- an owner byte names u
+  named : (p : ℕ) → recordOf f r .owner ≡ Party p → p ≡ u
+  named = records-right f (accepted-iff-well-formed f .0 a) .owner u r l m
+
+  -- the owner that a record of u's chain says, in either edition
   pub owner-said : recordOf f r .owner ≡ ownerIn (editionOf f) u
   unfolding recordOf ownerIn
   owner-said =
-      let h = accepted-iff-well-formed f .0 a .owner u r l m in
-      by-test (eqb (editionOf f) 1) (λ q. rw q) (λ q. rw q (ap Party (h (byteAt f (placeOf f r + 4)) (rw q))))
+      by-test (eqb (editionOf f) 1) (λ q. rw q) (λ q. rw q (ap Party (named (byteAt f (placeOf f r + 4)) (rw q))))
 
   -- in edition 2 a record of u's chain has owner u
   pub owner-byte : editionOf f ≡ 2 → byteAt f (placeOf f r + 4) ≡ u
   unfolding recordOf ownerIn
-  owner-byte e = accepted-iff-well-formed f .0 a .owner u r l m (byteAt f (placeOf f r + 4)) (rw e)
+  owner-byte e = named (byteAt f (placeOf f r + 4)) (rw e)

@@ -9,14 +9,16 @@ use borrow.Author.Tests.{eq-eqb, ne-eqb}
 use Rattle.lists.specs.Lists.{member, upFrom}
 use Rattle.lists.proofs.Cases.{by-test, both}
 use Rattle.lists.proofs.ListLaws.{all-in, all-of, up-in, up-out}
-use Rattle.house_file.specs.Reading.{Marks, everyReached}
+use Rattle.house_file.specs.Check.{everyReached}
+use Rattle.house_file.specs.promises.Reading.{RecordMarks}
 
-module _ (marks seen : List ℕ) (m : Marks marks seen) (records : ℕ) where
+module _ (marks seen : List ℕ) (m : RecordMarks marks seen) (records : ℕ) where
   pub one-missing : (i : ℕ) → i < records → getD marks i 0 ≡ 0 → everyReached records seen ≡ false
   one-missing i h e =
       let k : suc i - 1 ≡ i = omega arith in
       let n : member (suc i) seen ≡ false = sym (m (suc i) (omega arith)) ∙ rw k (ap not (eq-eqb (getD marks i 0) 0 e)) in
-      by-test (everyReached records seen) (λ t. both (all-in (λ s. member s seen) (upFrom 1 records) t (up-in 1 records (suc i) (omega arith) (omega arith))) n) (λ f. f)
+      let listed = up-in 1 records (suc i) (omega arith) (omega arith) in
+      by-test (everyReached records seen) (λ t. both (all-in (λ s. member s seen) (upFrom 1 records) t listed) n) (λ f. f)
 
   pub none-missing : ((i : ℕ) → i < records → getD marks i 0 ≡ 0 → ⊥) → everyReached records seen ≡ true
   none-missing f =

@@ -1,4 +1,4 @@
--- Accepted means well formed: the header's tests one by one, then the walk along all chains. Assumes nothing.
+-- Accepted means well formed: the header's tests one by one, then all chains followed. Assumes nothing.
 use mathlib.Core.Path.{_≡_, refl, ap, _∙_}
 use mathlib.Core.Bool.{Bool, true, false, not}
 use mathlib.Core.Logic.{_↔_}
@@ -15,14 +15,15 @@ use Rattle.fields.specs.Numbers.{byteAt}
 use Rattle.house_layout.specs.Layout.{editionOf, partiesOf, labelsOf, languageOf, longestOf, recordsOf, sizeOf, recordOf}
 use Rattle.house_layout.specs.Reply.{refuse}
 use Rattle.house_layout.specs.Fields.{within, fieldsInRange}
-use Rattle.house_file.specs.Check.{Walk, stopped, passed, walkChains, reachedAll, chainsCheck, checkOf}
-use Rattle.house_file.specs.Meaning.{FieldsRight, WellFormed}
+use Rattle.house_file.specs.Check.{Followed, stopped, passed, followChains, reachedAll, chainsCheck, checkOf}
+use Rattle.house_file.specs.Meaning.{chainOf, FieldsRight, WellFormed}
 use Rattle.house_layout.specs.declared.reply.Check.{Check}
 use Rattle.house_layout.specs.declared.reply.Check.the-variants.{Accepted, Refused}
 use Rattle.house_layout.specs.declared.reply.Refusal.{Refusal}
 use Rattle.house_layout.specs.declared.reply.Refusal.the-variants.{Length, Field, Unreached}
 use Rattle.house_layout.proofs.RecordLaws.{owner-is-own, not-foreign, target-below, target-other, target-legal, kind-cases, kind-legal}
-use Rattle.house_file.proofs.ChainsLaws.{chainsFrom, chains-in, chains-out, walks-passed, passed-walks}
+use Rattle.house_file.proofs.ChainsLaws.{chainsFrom, chains-in, chains-out, follows-passed, passed-follows}
+use Rattle.house_file.proofs.LinkedLaws.{records-right}
 
 -- a test that was passed over
 pub refuse-passed : (b : Bool) (x : Refusal) (k : Check) → refuse b x k ≡ Accepted → (b ≡ false) × (k ≡ Accepted)
@@ -69,7 +70,7 @@ right-fields f h =
     (le-leb (recordsOf f) 8928 (h .records)))))))
 
 -- all records were reached
-reached-out : (r : ℕ) (w : Walk) → reachedAll r w ≡ Accepted
+reached-out : (r : ℕ) (w : Followed) → reachedAll r w ≡ Accepted
     → (all : List ℕ) × ((w ≡ passed all) × ((s : ℕ) → 1 ≤ s → s ≤ r → List·Memᴰ s all))
 reached-out r (stopped x) e = let z : _≡_ {A = ℕ} 0 1 = cc in absurd (omega arith)
 reached-out r (passed all) e =
@@ -125,38 +126,42 @@ well-formed : (f : List ℕ) → checkOf f ≡ Accepted → WellFormed f
 unfolding chainsCheck
 well-formed f e =
     let g = framing f e in
-    let w = reached-out (recordsOf f) (walkChains f 0 (partiesOf f) []) (g .chains) in
-    let p = walks-passed f 0 (partiesOf f) [] (w .0) (w .1 .0) in
+    let w = reached-out (recordsOf f) (followChains f 0 (partiesOf f) []) (g .chains) in
+    let p = follows-passed f 0 (partiesOf f) [] (w .0) (w .1 .0) in
     let h = p .1 in
     record {
       long = g .long;
       fields = g .fields;
       size = g .size;
-      linked = λ u l. h .chain u (omega arith) (omega arith) .linked;
-      reached = λ r a b.
-          let m : List·Memᴰ r (chainsFrom f 0 (partiesOf f)) = rw (p .0) at (w .1 .1 r a b) in
-          let o = chains-out f 0 (partiesOf f) m in
-          (o .0, (omega (arith, o .1 .1 .0), o .1 .1 .1));
-      once = λ u l. h .chain u (omega arith) (omega arith) .once;
-      apart = λ u v r l k m n. h .apart u v r (omega arith) l (omega arith) m n;
-      owner = λ u r l m. owner-is-own u (recordOf f r .owner) (h .chain u (omega arith) (omega arith) .own r m);
-      target = λ u r l m.
-          let t = h .chain u (omega arith) (omega arith) .target r m in
-          (target-below _ u _ t, target-other (partiesOf f) u _ t);
-      kind = λ u r l m. kind-cases (labelsOf f) (recordOf f r .kind) (h .chain u (omega arith) (omega arith) .kind r m);
-      different = λ u r s l. h .chain u (omega arith) (omega arith) .different r s;
+      chain = chainOf f;
+      records = record {
+        linked = λ u l. h .chain u (omega arith) (omega arith) .linked;
+        reached = λ r a b.
+            let m : List·Memᴰ r (chainsFrom f 0 (partiesOf f)) = rw (p .0) at (w .1 .1 r a b) in
+            let o = chains-out f 0 (partiesOf f) m in
+            (o .0, (omega (arith, o .1 .1 .0), o .1 .1 .1));
+        once = λ u l. h .chain u (omega arith) (omega arith) .once;
+        apart = λ u v r l k m n. h .apart u v r (omega arith) l (omega arith) m n;
+        owner = λ u r l m. owner-is-own u (recordOf f r .owner) (h .chain u (omega arith) (omega arith) .owner r m);
+        target = λ u r l m.
+            let t = h .chain u (omega arith) (omega arith) .target r m in
+            (target-below _ u _ t, target-other (partiesOf f) u _ t);
+        kind = λ u r l m. kind-cases (labelsOf f) (recordOf f r .kind) (h .chain u (omega arith) (omega arith) .kind r m);
+        different = λ u r s l. h .chain u (omega arith) (omega arith) .different r s;
+      };
     }
 
 accepted : (f : List ℕ) → WellFormed f → checkOf f ≡ Accepted
 unfolding checkOf chainsCheck
-accepted f h =
-    passed-refuse Length (le-ltb (length f) 8 (h .long))
-    (passed-refuse Field (ap not (right-fields f (h .fields)))
-    (passed-refuse Length (ap not (eq-eqb (length f) (sizeOf f) (h .size)))
-    (ap (reachedAll (recordsOf f)) (passed-walks f 0 (partiesOf f) [] (record {
+accepted f w =
+    let h = records-right f w in
+    passed-refuse Length (le-ltb (length f) 8 (w .long))
+    (passed-refuse Field (ap not (right-fields f (w .fields)))
+    (passed-refuse Length (ap not (eq-eqb (length f) (sizeOf f) (w .size)))
+    (ap (reachedAll (recordsOf f)) (passed-follows f 0 (partiesOf f) [] (record {
       chain = λ v a b. record {
         linked = h .linked v (omega arith);
-        own = λ s m. not-foreign v (recordOf f s .owner) (h .owner v s (omega arith) m);
+        owner = λ s m. not-foreign v (recordOf f s .owner) (h .owner v s (omega arith) m);
         target = λ s m. let t = h .target v s (omega arith) m in target-legal (partiesOf f) v (recordOf f s .target) (t .0) (t .1);
         kind = λ s m. kind-legal (labelsOf f) (recordOf f s .kind) (h .kind v s (omega arith) m);
         once = h .once v (omega arith);

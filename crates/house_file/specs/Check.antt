@@ -5,7 +5,7 @@ use mathlib.Core.List.{List, [], _∷_, _++_}
 use lib.ListN.{length}
 use lib.Dec.{eqb, ltb}
 use Rattle.lists.specs.Lists.{pick, allOf, anyOf, member, upFrom}
-use Rattle.house_layout.specs.Layout.{partiesOf, labelsOf, recordsOf, sizeOf, headOf, recordOf}
+use Rattle.house_layout.specs.Layout.{partiesOf, labelsOf, recordsOf, headerSize, sizeOf, headOf, recordOf}
 use Rattle.house_layout.specs.Reply.{refuse}
 use Rattle.house_layout.specs.Fields.{fieldsInRange, judgeRecord}
 use Rattle.house_layout.specs.declared.reply.Refusal.{Refusal}
@@ -25,51 +25,54 @@ recordCheck f u before earlier r =
     (member r (before ++ earlier))
     (anyOf (says f (recordOf f r .target) (recordOf f r .kind)) earlier)
 
--- what a walk along chains gives: a refusal, or the numbers of the records that it passed, in order
-pub data Walk : Type 0 where
-  stopped : Refusal → Walk
-  passed : List ℕ → Walk
+-- what following chains gives: a refusal, or the numbers of the records passed, in order
+pub data Followed : Type 0 where
+  stopped : Refusal → Followed
+  passed : List ℕ → Followed
 
-abbrev pub replyOf : Walk → Check
-replyOf (stopped x) = Refused x
-replyOf (passed c) = Accepted
+abbrev pub ifAccepted : Check → Followed → Followed
+ifAccepted Accepted w = w
+ifAccepted (Refused x) w = stopped x
 
-abbrev pub onward : Check → Walk → Walk
-onward Accepted w = w
-onward (Refused x) w = stopped x
+-- R + 1 turns: a chain passes each record once, so they are enough, and a turn more could only meet a record again
+abbrev pub enoughTurns : List ℕ → ℕ
+enoughTurns f = suc (recordsOf f)
 
--- Along party u's chain from record r on.
--- A chain passes each record once, so R + 1 turns are enough, and a turn more could only meet a record again.
-unfoldable pub walkChain : List ℕ → ℕ → ℕ → List ℕ → List ℕ → ℕ → Walk
-walkChain f u zero before earlier r = stopped Again
-walkChain f u (suc k) before earlier r =
+-- along party u's chain from record r on
+unfoldable pub followChain : List ℕ → ℕ → ℕ → List ℕ → List ℕ → ℕ → Followed
+followChain f u zero before earlier r = stopped Again
+followChain f u (suc turns) before earlier r =
     pick (eqb r 0) (passed earlier)
-    (pick (ltb (recordsOf f) r) (stopped Link)
-    (onward (recordCheck f u before earlier r) (walkChain f u k before (earlier ++ (r ∷ [])) (recordOf f r .next))))
+    (ifAccepted (refuse (ltb (recordsOf f) r) Link (recordCheck f u before earlier r))
+    (followChain f u turns before (earlier ++ (r ∷ [])) (recordOf f r .next)))
 
-abbrev pub andThen : Walk → (List ℕ → Walk) → Walk
+abbrev pub andThen : Followed → (List ℕ → Followed) → Followed
 andThen (stopped x) g = stopped x
 andThen (passed c) g = g c
 
 -- along the chains of m parties from u on
-unfoldable pub walkChains : List ℕ → ℕ → ℕ → List ℕ → Walk
-walkChains f u zero before = passed before
-walkChains f u (suc m) before =
-    andThen (walkChain f u (suc (recordsOf f)) before [] (headOf f u))
-    (λ c. walkChains f (suc u) m (before ++ c))
+unfoldable pub followChains : List ℕ → ℕ → ℕ → List ℕ → Followed
+followChains f u zero before = passed before
+followChains f u (suc m) before =
+    andThen (followChain f u (enoughTurns f) before [] (headOf f u))
+    (λ c. followChains f (suc u) m (before ++ c))
+
+-- every record from 1 to r was reached
+abbrev pub everyReached : ℕ → List ℕ → Bool
+everyReached r seen = allOf (λ s. member s seen) (upFrom 1 r)
 
 -- a record never reached comes last
-abbrev pub reachedAll : ℕ → Walk → Check
+abbrev pub reachedAll : ℕ → Followed → Check
 reachedAll r (stopped x) = Refused x
-reachedAll r (passed all) = refuse (not (allOf (λ s. member s all) (upFrom 1 r))) Unreached Accepted
+reachedAll r (passed all) = refuse (not (everyReached r all)) Unreached Accepted
 
 unfoldable pub chainsCheck : List ℕ → Check
-chainsCheck f = reachedAll (recordsOf f) (walkChains f 0 (partiesOf f) [])
+chainsCheck f = reachedAll (recordsOf f) (followChains f 0 (partiesOf f) [])
 
 -- the check's reply for any bytes
 unfoldable pub checkOf : List ℕ → Check
 checkOf f =
-    refuse (ltb (length f) 8) Length
+    refuse (ltb (length f) headerSize) Length
     (refuse (not (fieldsInRange f)) Field
     (refuse (not (eqb (length f) (sizeOf f))) Length
     (chainsCheck f)))

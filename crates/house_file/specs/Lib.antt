@@ -1,4 +1,3 @@
 pub mod Check
 pub mod Meaning
-pub mod Decoded
-pub mod Reading
+pub mod promises

@@ -2,18 +2,26 @@
 ghost use mathlib.Core.Path.{_≡_};
 ghost use mathlib.Core.List.{List};
 ghost use Prim.Native.Nat.{ℕ, _≤_};
-ghost use Rattle.masks.specs.Mask.{testBit};
-ghost use Rattle.masks.specs.Table.{maskIn, maskAt};
-ghost use Rattle.house_file.specs.Check.{checkOf};
-ghost use Rattle.house_file.specs.Decoded.{ReadAs};
-ghost use Rattle.house_file.specs.Reading.{Framed, Marks, everyReached, ChainsRead};
+ghost use Rattle.limits.specs.Limits.{mostRecords};
+ghost use Rattle.masks.specs.promises.Mask.{testBit};
+ghost use Rattle.masks.specs.promises.Table.{maskIn, maskAt};
+ghost use Rattle.house_layout.specs.promises.Kinds.{permitBit};
+ghost use Rattle.house_file.specs.Check.{everyReached, checkOf};
+ghost use Rattle.house_file.specs.promises.Decoded.{ReadAs};
+ghost use Rattle.house_file.specs.promises.Reading.{Framed, RecordMarks, ChainsRead};
 use crate::chain::read_chain;
 use house_layout::Check;
+use house_layout::HEAD_SIZE;
+use house_layout::HEADER_SIZE;
 use house_layout::Header;
+use house_layout::PERMIT_BIT;
 use house_layout::Refusal;
 use house_layout::fields_in_range;
 use house_layout::read_header;
 use house_layout::record_size;
+use limits::MASK_PLACES;
+use limits::MOST_PARTIES;
+use limits::MOST_RECORDS;
 use masks::Row;
 use masks::Table;
 
@@ -36,9 +44,9 @@ pub struct Chains {
 }
 
 // Whether every record was reached.
-fn all_reached(marks: &[u8; 8928], records: usize) -> bool
-    requires { ⌜ records ≤ 8928 ⌝ }
-    ensures { λ r. ⌜ ((seen : List ℕ) → Marks (now (marks .entry)) seen → r ≡ everyReached records seen) ⌝ }
+fn all_reached(marks: &[u8; MOST_RECORDS], records: usize) -> bool
+    requires { ⌜ records ≤ mostRecords ⌝ }
+    ensures { λ r. ⌜ ((seen : List ℕ) → RecordMarks (now (marks .entry)) seen → r ≡ everyReached records seen) ⌝ }
 {
     let mut i = 0;
     while i < records {
@@ -55,7 +63,7 @@ fn read_chains(file: &[u8], h: Header) -> Chains
     requires { ⌜ Framed (now file) h ⌝ }
     ensures { λ r. ⌜ ChainsRead (now (file .entry)) r ⌝ }
 {
-    let mut marks = [0u8; 8928];
+    let mut marks = [0u8; MOST_RECORDS];
     let mut kinds = masks::empty_table();
     let mut u = 0;
     while u < h.parties {
@@ -90,13 +98,13 @@ fn read_chains(file: &[u8], h: Header) -> Chains
 
 // The parties that a row has a permit for.
 fn permit_mask(row: Row) -> u32
-    ensures { λ r. ⌜ ((v : ℕ) → testBit r v ≡ testBit (maskIn row v) 31) ⌝ }
+    ensures { λ r. ⌜ ((v : ℕ) → testBit r v ≡ testBit (maskIn row v) permitBit) ⌝ }
 {
     let mut mask = 0;
     let mut v: u32 = 0;
-    while v < 32 {
+    while v < MASK_PLACES {
         let i = v as usize;
-        if masks::has(row.masks[i], 31) {
+        if masks::has(row.masks[i], PERMIT_BIT) {
             mask = masks::with(mask, v);
         }
         v += 1;
@@ -106,11 +114,11 @@ fn permit_mask(row: Row) -> u32
 
 // The permit table: a mask for each first party.
 fn permit_masks(kinds: Table) -> Row
-    ensures { λ r. ⌜ ((u v : ℕ) → testBit (maskIn r u) v ≡ testBit (maskAt kinds u v) 31) ⌝ }
+    ensures { λ r. ⌜ ((u v : ℕ) → testBit (maskIn r u) v ≡ testBit (maskAt kinds u v) permitBit) ⌝ }
 {
     let mut permits = masks::empty_row();
     let mut u = 0;
-    while u < 32 {
+    while u < MOST_PARTIES {
         let row = kinds.rows[u];
         permits = masks::put_mask(permits, u, permit_mask(row));
         u += 1;
@@ -145,14 +153,14 @@ fn refused(e: Refusal) -> Reading
 pub fn read(file: &[u8]) -> Reading
     ensures { λ r. ⌜ ReadAs (now (file .entry)) r ⌝ }
 {
-    if file.len() < 8 {
+    if file.len() < HEADER_SIZE {
         return refused(Refusal::Length);
     }
     let h = read_header(file);
     if !fields_in_range(file, h) {
         return refused(Refusal::Field);
     }
-    if file.len() != 8 + 2 * h.parties + record_size(h.edition) * h.records {
+    if file.len() != HEADER_SIZE + HEAD_SIZE * h.parties + record_size(h.edition) * h.records {
         return refused(Refusal::Length);
     }
     let c = read_chains(file, h);

@@ -10,7 +10,7 @@ use borrow.Author.Tests.{ltb-true, eqb-true, eqb-false, eq-eqb, ne-eqb, lt-ltb, 
 use Rattle.lists.proofs.Cases.{by-test, and-left, and-right}
 use Rattle.house_layout.specs.Layout.{permitKind}
 use Rattle.house_layout.specs.Fields.{foreign, legalTarget, legalKind, judgeRecord}
-use Rattle.house_layout.specs.Kinds.{bitOf}
+use Rattle.house_layout.specs.promises.Kinds.{bitOf}
 use Rattle.house_layout.specs.declared.record.Record.{Record}
 use Rattle.house_layout.specs.declared.record.OwnerByte.{OwnerByte}
 use Rattle.house_layout.specs.declared.record.OwnerByte.the-variants.{Missing, Party}
@@ -42,7 +42,7 @@ target-other n u t e = eqb-false t u (not-true (eqb t u) (and-right (ltb t n) (n
 pub target-legal : (n u t : ℕ) → t < n → (t ≡ u → ⊥) → legalTarget n u t ≡ true
 target-legal n u t l ne = rw (lt-ltb t n l, ne-eqb t u ne)
 
--- a kind
+-- a legal kind is a label or a permit's
 pub kind-cases : (l k : ℕ) → legalKind l k ≡ true → (k < l) ⊎ (k ≡ permitKind)
 kind-cases l k e = by-test (ltb k l) (λ q. inl (ltb-true k l q)) (λ q. inr (eqb-true k permitKind (rw q at e)))
 
@@ -55,11 +55,11 @@ permit-legal l = by-test (ltb permitKind l) (λ q. rw q) (λ q. rw q)
 pub kind-legal : (l k : ℕ) → (k < l) ⊎ (k ≡ permitKind) → legalKind l k ≡ true
 kind-legal l k s = ⊎-elim (λ h. label-legal l k h) (λ e. rw e (permit-legal l)) s
 
--- its place in a mask of kinds
+-- a kind's place in a mask of kinds
 pub bit-label : (k : ℕ) → k < 255 → bitOf k ≡ k
 bit-label k h = rw (ne-eqb k permitKind (omega arith))
 
-module _ (l : ℕ) (few : l ≤ 8) where
+module _ (l : ℕ) (bounded : l ≤ 8) where
   pub kind-small : (k : ℕ) → legalKind l k ≡ true → k < 256
   kind-small k e = ⊎-elim (λ h. omega arith) (λ q. omega arith) (kind-cases l k e)
 
@@ -118,7 +118,7 @@ module _ (n l u : ℕ) (r : Record) where
   -- an accepted record passed each test
   pub record Passed (a p : Bool) : Type 0 where
     pub fresh : a ≡ false
-    pub own : O ≡ false
+    pub owner : O ≡ false
     pub target : T ≡ true
     pub kind : K ≡ true
     pub new : p ≡ false
@@ -133,7 +133,7 @@ module _ (n l u : ℕ) (r : Record) where
       by-test T (λ t.
       by-test K (λ k.
       by-test p (λ q. unlike (judge-repeat a p e o t k q) h)
-      (λ q. record { fresh = e; own = o; target = t; kind = k; new = q }))
+      (λ q. record { fresh = e; owner = o; target = t; kind = k; new = q }))
       (λ k. unlike (judge-kind a p e o t k) h))
       (λ t. unlike (judge-target a p e o t) h)))
 

@@ -3,8 +3,9 @@ use Prim.Native.Nat.{ℕ}
 use mathlib.Core.Bool.{Bool, false, not, _&&_, _||_}
 use mathlib.Core.List.{List}
 use lib.Dec.{eqb, ltb, leb}
+use Rattle.limits.specs.Limits.{mostParties, mostLabels, lastLanguage, longestWord, mostRecords}
 use Rattle.fields.specs.Numbers.{byteAt}
-use Rattle.house_layout.specs.Layout.{editionOf, partiesOf, labelsOf, languageOf, longestOf, recordsOf, permitKind}
+use Rattle.house_layout.specs.Layout.{lastEdition, editionOf, partiesOf, labelsOf, languageOf, longestOf, recordsOf, permitKind}
 use Rattle.house_layout.specs.Reply.{refuse}
 use Rattle.house_layout.specs.declared.reply.Refusal.the-variants.{Again, Owner, Target, Kind, Repeat}
 use Rattle.house_layout.specs.declared.reply.Check.{Check}
@@ -19,13 +20,13 @@ within low high x = leb low x && leb x high
 -- every header field is in its range
 unfoldable pub fieldsInRange : List ℕ → Bool
 fieldsInRange f =
-    within 1 2 (editionOf f)
-    && (within 1 32 (partiesOf f)
-    && (within 1 8 (labelsOf f)
-    && (within 0 3 (languageOf f)
-    && (within 1 31 (longestOf f)
+    within 1 lastEdition (editionOf f)
+    && (within 1 mostParties (partiesOf f)
+    && (within 1 mostLabels (labelsOf f)
+    && (within 0 lastLanguage (languageOf f)
+    && (within 1 longestWord (longestOf f)
     && (eqb (byteAt f 5) 0
-    && leb (recordsOf f) 8928)))))
+    && leb (recordsOf f) mostRecords)))))
 
 -- 02, Ticket 2: "an owner byte other than the chain's party"; where there is none, no test looks at it
 abbrev pub foreign : ℕ → OwnerByte → Bool

@@ -1,5 +1,4 @@
 pub mod Layout
 pub mod Reply
 pub mod Fields
-pub mod Kinds
-pub mod Places
+pub mod promises

@@ -4,13 +4,16 @@ ghost use mathlib.Core.Bool.{not};
 ghost use Prim.Native.Nat.{_+_, _≤_, _<_};
 ghost use lib.ListN.{length};
 ghost use lib.Dec.{eqb};
-ghost use Rattle.masks.specs.Mask.{testBit};
-ghost use Rattle.masks.specs.Table.{maskIn};
+ghost use Rattle.limits.specs.Limits.{mostParties, mostLabels};
+ghost use Rattle.masks.specs.promises.Mask.{testBit};
+ghost use Rattle.masks.specs.promises.Table.{maskIn};
 ghost use Rattle.fields.specs.Numbers.{byteAt};
 ghost use Rattle.house_layout.specs.Layout.{recordSize, ownerIn, recordOf};
-ghost use Rattle.house_layout.specs.Places.{RecordThere};
+ghost use Rattle.house_layout.specs.promises.Places.{RecordThere};
 ghost use Rattle.house_layout.specs.Fields.{foreign, legalTarget, legalKind, judgeRecord};
-ghost use Rattle.house_layout.specs.Kinds.{bitOf};
+ghost use Rattle.house_layout.specs.promises.Kinds.{bitOf};
+use crate::header::HEAD_SIZE;
+use crate::header::HEADER_SIZE;
 use crate::header::Header;
 use crate::header::record_size;
 use crate::reply::Check;
@@ -18,6 +21,11 @@ use crate::reply::Refusal;
 use fields::u16_at;
 use fields::wide;
 use masks::Row;
+
+// The kind byte of a permit, and a permit's place in a mask of kinds.
+pub const PERMIT_KIND: usize = 255;
+
+pub const PERMIT_BIT: u32 = 31;
 
 // The owner that a record says; a record of edition 1 has no byte for it.
 pub enum OwnerByte {
@@ -49,7 +57,7 @@ pub fn read_record(file: &[u8], h: Header, r: usize) -> Record
     requires { ⌜ RecordThere (now file) h r ⌝ }
     ensures { λ x. ⌜ x ≡ recordOf (now (file .entry)) r ⌝ }
 {
-    let at = 8 + 2 * h.parties + record_size(h.edition) * (r - 1);
+    let at = HEADER_SIZE + HEAD_SIZE * h.parties + record_size(h.edition) * (r - 1);
     let target = wide(file[at]);
     let kind = wide(file[at + 1]);
     let next = u16_at(file, at + 2);
@@ -67,8 +75,8 @@ pub fn bit_of(kind: usize) -> u32
     requires { ⌜ kind < 256 ⌝ }
     ensures { λ r. ⌜ r ≡ bitOf kind ⌝ }
 {
-    if kind == 255 {
-        return 31;
+    if kind == PERMIT_KIND {
+        return PERMIT_BIT;
     }
     kind as u32
 }
@@ -97,13 +105,13 @@ fn legal_kind(labels: usize, kind: usize) -> bool
     if kind < labels {
         return true;
     }
-    kind == 255
+    kind == PERMIT_KIND
 }
 
 // The checks 4, 15, 6, 7, 8 of one record of party u's chain: `mark` is not 0 where the record was reached before, and `row` has
 // the kinds of the chain's earlier records.
 pub fn check_record(h: Header, u: usize, x: Record, mark: u8, row: Row) -> Check
-    requires { ⌜ (h .parties ≤ 32) × (h .labels ≤ 8) ⌝ }
+    requires { ⌜ (h .parties ≤ mostParties) × (h .labels ≤ mostLabels) ⌝ }
     ensures { λ r. ⌜ r ≡ judgeRecord (h .parties) (h .labels) u x (not (eqb mark 0))
         (testBit (maskIn row (x .target)) (bitOf (x .kind))) ⌝ }
 {

@@ -2,7 +2,7 @@
 use mathlib.Core.Path.{_≡_, refl, sym, _∙_}
 use mathlib.Core.Logic.{⊎-elim}
 use mathlib.Core.Bool.{Bool, true, false, _&&_, _||_, true≢false}
-use mathlib.Core.List.{List, _∷_, List·Memᴰ, List·Memᴰ·cases-cons}
+use mathlib.Core.List.{List, [], _∷_, _++_, List·Memᴰ, List·Memᴰ·cases-cons, List·Memᴰ·append-cases, List·Memᴰ·not-nil}
 use mathlib.Core.Option.{Option, none, some}
 
 -- by the two outcomes of a test
@@ -18,6 +18,14 @@ by-found (some x) f g = g x refl
 -- by where an element of y ∷ ys stands
 pub by-mem : {G A : Type 0} {x y : A} {ys : List A} → List·Memᴰ x (y ∷ ys) → (x ≡ y → G) → (List·Memᴰ x ys → G) → G
 by-mem m f g = ⊎-elim f g (List·Memᴰ·cases-cons m)
+
+-- by which of two lists joined an element stands in
+pub by-append : {G A : Type 0} {x : A} (l : List A) {m : List A} → List·Memᴰ x (l ++ m) → (List·Memᴰ x l → G) → (List·Memᴰ x m → G) → G
+by-append l n f g = ⊎-elim f g (List·Memᴰ·append-cases l n)
+
+-- the same where the second list is one element
+pub by-last : {G A : Type 0} {x y : A} (l : List A) → List·Memᴰ x (l ++ (y ∷ [])) → (List·Memᴰ x l → G) → (x ≡ y → G) → G
+by-last l n f g = by-append l n f (λ k. by-mem k g (λ j. absurd (List·Memᴰ·not-nil j)))
 
 pub clash : {G : Type 0} → true ≡ false → G
 clash e = absurd (true≢false e)

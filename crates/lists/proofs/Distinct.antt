@@ -1,13 +1,14 @@
--- Lists without repetition: their places, their lengths against lists that have their members, and how they are made. By induction on the list.
+-- Lists without repetition: their places, their lengths against lists that have
+-- their members, and how they are made. By induction on the list.
 use mathlib.Core.Path.{_≡_, refl, sym, ap}
-use mathlib.Core.Logic.{⊎-elim}
-use mathlib.Core.List.{List, [], _∷_, _++_, map, List·Memᴰ, List·Memᴰ·head, List·Memᴰ·tail, List·Memᴰ·not-nil, List·Memᴰ·append-cases, Memᴰ·append-left, Memᴰ·append-right}
-use Prim.Native.Nat.{ℕ, zero, suc, _+_, _≤_, _<_}
+use mathlib.Core.List.{List, [], _∷_, _++_, map, List·Memᴰ, List·Memᴰ·head, List·Memᴰ·tail}
+use mathlib.Core.List.{List·Memᴰ·not-nil, Memᴰ·append-left, Memᴰ·append-right}
+use Prim.Native.Nat.{ℕ, zero, suc, _≤_, _<_}
 use native.Mathlib.Omega.{arith}
 use lib.ListN.{length, getD, length-append}
 use Rattle.lists.specs.Lists.{flatMap}
 use Rattle.lists.specs.Order.{Distinct}
-use Rattle.lists.proofs.Cases.{by-mem}
+use Rattle.lists.proofs.Cases.{by-mem, by-append}
 use Rattle.lists.proofs.ListLaws.{map-out, flat-out}
 
 module _ {A : Type 0} where
@@ -20,7 +21,10 @@ module _ {A : Type 0} where
   -- and every element at some place
   pub in-getD : {x : A} (l : List A) (d : A) → List·Memᴰ x l → (i : ℕ) × ((i < length l) × (getD l i d ≡ x))
   in-getD [] d m = absurd (List·Memᴰ·not-nil m)
-  in-getD (y ∷ l) d m = by-mem m (λ e. (0, (omega arith, sym e))) (λ n. let r = in-getD l d n in (suc (r .0), (omega (arith, r .1 .0), r .1 .1)))
+  in-getD (y ∷ l) d m =
+      by-mem m
+      (λ e. (0, (omega arith, sym e)))
+      (λ n. let r = in-getD l d n in (suc (r .0), (omega (arith, r .1 .0), r .1 .1)))
 
   -- in a list without repetition different places have different elements
   pub distinct-places : (l : List A) (d : A) → Distinct l → (i j : ℕ) → i < length l → j < length l → getD l i d ≡ getD l j d → i ≡ j
@@ -49,27 +53,28 @@ module _ {A : Type 0} where
   distinct-most (x ∷ l) m d f =
       let r = split-at m (f x (List·Memᴰ·head refl)) in
       let ih : length l ≤ length (r .pre ++ r .post) = distinct-most l (r .pre ++ r .post) (d .1) (λ y n.
-      ⊎-elim
-      (λ (k : List·Memᴰ y (r .pre)). Memᴰ·append-left (r .post) k)
-      (λ (k : List·Memᴰ y (x ∷ r .post)). by-mem k (λ e. absurd (d .0 (rw e at n))) (λ p. Memᴰ·append-right (r .pre) p))
-      (List·Memᴰ·append-cases (r .pre) (rw (r .split) at (f y (List·Memᴰ·tail n))))) in
+      by-append (r .pre) (rw (r .split) at (f y (List·Memᴰ·tail n)))
+      (λ k. Memᴰ·append-left (r .post) k)
+      (λ k. by-mem k (λ e. absurd (d .0 (rw e at n))) (λ p. Memᴰ·append-right (r .pre) p))) in
       omega (arith, ap length (r .split), length-append (r .pre) (x ∷ r .post), length-append (r .pre) (r .post))
 
   -- two lists without repetition with the same members are equally long
-  pub distinct-equal : (l m : List A) → Distinct l → Distinct m → ((x : A) → List·Memᴰ x l → List·Memᴰ x m) → ((x : A) → List·Memᴰ x m → List·Memᴰ x l)
+  pub distinct-equal : (l m : List A) → Distinct l → Distinct m
+      → ((x : A) → List·Memᴰ x l → List·Memᴰ x m) → ((x : A) → List·Memᴰ x m → List·Memᴰ x l)
       → length l ≡ length m
   distinct-equal l m d e f g = omega (arith, distinct-most l m d f, distinct-most m l e g)
 
   pub distinct-append : (l m : List A) → Distinct l → Distinct m → ((x : A) → List·Memᴰ x l → List·Memᴰ x m → ⊥) → Distinct (l ++ m)
   distinct-append [] m d e f = e
   distinct-append (x ∷ l) m d e f = (
-    λ n. ⊎-elim (λ (k : List·Memᴰ x l). d .0 k) (λ (k : List·Memᴰ x m). f x (List·Memᴰ·head refl) k) (List·Memᴰ·append-cases l n),
+    λ n. by-append l n (λ k. d .0 k) (λ k. f x (List·Memᴰ·head refl) k),
     distinct-append l m (d .1) e (λ y a b. f y (List·Memᴰ·tail a) b),
   )
 
 module _ {A B : Type 0} where
   -- different elements have different images
-  pub distinct-map : (f : A → B) (l : List A) → Distinct l → ((x y : A) → List·Memᴰ x l → List·Memᴰ y l → f x ≡ f y → x ≡ y) → Distinct (map f l)
+  pub distinct-map : (f : A → B) (l : List A) → Distinct l
+      → ((x y : A) → List·Memᴰ x l → List·Memᴰ y l → f x ≡ f y → x ≡ y) → Distinct (map f l)
   distinct-map f [] d i = tt
   distinct-map f (x ∷ l) d i = (
     λ m. let r = map-out f l m in d .0 (rw (i x (r .0) (List·Memᴰ·head refl) (List·Memᴰ·tail (r .1)) (r .2)) (r .1)),

@@ -1,8 +1,8 @@
 -- What the tests and choices over lists say of their members, each by induction on the list. Assumes nothing.
 use mathlib.Core.Path.{_≡_, refl, sym, ap, _∙_}
-use mathlib.Core.Logic.{⊎-elim}
 use mathlib.Core.Bool.{Bool, true, false, _&&_, _||_}
-use mathlib.Core.List.{List, [], _∷_, _++_, map, List·Memᴰ, List·Memᴰ·head, List·Memᴰ·tail, List·Memᴰ·not-nil, Memᴰ·append-left, Memᴰ·append-right, List·Memᴰ·append-cases}
+use mathlib.Core.List.{List, [], _∷_, _++_, map, List·Memᴰ, List·Memᴰ·head, List·Memᴰ·tail}
+use mathlib.Core.List.{List·Memᴰ·not-nil, Memᴰ·append-left, Memᴰ·append-right}
 use mathlib.Core.Option.{none, some}
 use Prim.Native.Nat.{ℕ, zero, suc, _+_, _≤_, _<_}
 use native.Mathlib.Omega.{arith}
@@ -10,7 +10,7 @@ use lib.Dec.{eqb}
 use lib.ListN.{length}
 use borrow.Author.Tests.{eqb-true, eqb-false, eq-eqb}
 use Rattle.lists.specs.Lists.{allOf, anyOf, filterBy, firstBy, flatMap, member, upFrom, range}
-use Rattle.lists.proofs.Cases.{by-test, by-mem, clash, both}
+use Rattle.lists.proofs.Cases.{by-test, by-mem, by-append, clash, both}
 
 module _ {A : Type 0} where
   pub all-in : (p : A → Bool) (l : List A) → allOf p l ≡ true → {x : A} → List·Memᴰ x l → p x ≡ true
@@ -31,7 +31,10 @@ module _ {A : Type 0} where
   pub any-out : (p : A → Bool) (l : List A) → anyOf p l ≡ true → (x : A) × List·Memᴰ x l × (p x ≡ true)
   unfolding anyOf
   any-out p [] h = clash (sym h)
-  any-out p (y ∷ ys) h = by-test (p y) (λ q. (y, List·Memᴰ·head refl, q)) (λ q. let r = any-out p ys (rw q at h) in (r .0, List·Memᴰ·tail (r .1), r .2))
+  any-out p (y ∷ ys) h =
+      by-test (p y)
+      (λ q. (y, List·Memᴰ·head refl, q))
+      (λ q. let r = any-out p ys (rw q at h) in (r .0, List·Memᴰ·tail (r .1), r .2))
 
   -- where some element passing is absurd, none does
   pub any-none : (p : A → Bool) (l : List A) → ((x : A) → List·Memᴰ x l → p x ≡ true → ⊥) → anyOf p l ≡ false
@@ -55,13 +58,18 @@ module _ {A : Type 0} where
   filter-out p [] m = absurd (List·Memᴰ·not-nil m)
   filter-out p (y ∷ ys) m =
       by-test (p y)
-      (λ q. by-mem (rw (q, filterBy) at m) (λ r. (List·Memᴰ·head r, rw r q)) (λ n. let k = filter-out p ys n in (List·Memᴰ·tail (k .0), k .1)))
+      (λ q. by-mem (rw (q, filterBy) at m)
+      (λ r. (List·Memᴰ·head r, rw r q))
+      (λ n. let k = filter-out p ys n in (List·Memᴰ·tail (k .0), k .1)))
       (λ q. let k = filter-out p ys (rw (q, filterBy) at m) in (List·Memᴰ·tail (k .0), k .1))
 
   pub find-none : (p : A → Bool) (l : List A) → firstBy p l ≡ none → {x : A} → List·Memᴰ x l → p x ≡ false
   unfolding firstBy
   find-none p [] h m = absurd (List·Memᴰ·not-nil m)
-  find-none p (y ∷ ys) h m = by-test (p y) (λ q. cc (rw (q, firstBy) at h)) (λ q. by-mem m (λ r. rw r q) (λ n. find-none p ys (rw (q, firstBy) at h) n))
+  find-none p (y ∷ ys) h m =
+      by-test (p y)
+      (λ q. cc (rw (q, firstBy) at h))
+      (λ q. by-mem m (λ r. rw r q) (λ n. find-none p ys (rw (q, firstBy) at h) n))
 
   pub find-none-of : (p : A → Bool) (l : List A) → ((x : A) → List·Memᴰ x l → p x ≡ false) → firstBy p l ≡ none
   unfolding firstBy
@@ -81,8 +89,20 @@ module _ {A : Type 0} where
   find-some p [] {x} h = clash (cc h)
   find-some p (y ∷ ys) {x} h =
       by-test (p y)
-      (λ q. let e : y ≡ x = cc (rw (q, firstBy) at h) in record { pre = []; post = ys; split = cc; here = rw (← e) q; before = λ m. absurd (List·Memᴰ·not-nil m) })
-      (λ q. let r = find-some p ys (rw (q, firstBy) at h) in record { pre = y ∷ r .pre; post = r .post; split = ap (λ (l : List A). y ∷ l) (r .split); here = r .here; before = λ m. by-mem m (λ e. rw e q) (λ n. r .before n) })
+      (λ q. let e : y ≡ x = cc (rw (q, firstBy) at h) in record {
+        pre = [];
+        post = ys;
+        split = cc;
+        here = rw (← e) q;
+        before = λ m. absurd (List·Memᴰ·not-nil m);
+      })
+      (λ q. let r = find-some p ys (rw (q, firstBy) at h) in record {
+        pre = y ∷ r .pre;
+        post = r .post;
+        split = ap (λ (l : List A). y ∷ l) (r .split);
+        here = r .here;
+        before = λ m. by-mem m (λ e. rw e q) (λ n. r .before n);
+      })
 
   pub first-in : {p : A → Bool} {l : List A} {x : A} → First p l x → List·Memᴰ x l
   first-in r = rw (r .split) (Memᴰ·append-right (r .pre) (List·Memᴰ·head refl))
@@ -112,12 +132,18 @@ module _ {A B : Type 0} where
   pub flat-in : (f : A → List B) (l : List A) {x : A} {y : B} → List·Memᴰ x l → List·Memᴰ y (f x) → List·Memᴰ y (flatMap f l)
   unfolding flatMap
   flat-in f [] m k = absurd (List·Memᴰ·not-nil m)
-  flat-in f (z ∷ l) {x} {y} m k = by-mem m (λ e. Memᴰ·append-left {s = f z} (flatMap f l) (rw (← e) k)) (λ n. Memᴰ·append-right (f z) (flat-in f l n k))
+  flat-in f (z ∷ l) {x} {y} m k =
+      by-mem m
+      (λ e. Memᴰ·append-left {s = f z} (flatMap f l) (rw (← e) k))
+      (λ n. Memᴰ·append-right (f z) (flat-in f l n k))
 
   pub flat-out : (f : A → List B) (l : List A) {y : B} → List·Memᴰ y (flatMap f l) → (x : A) × List·Memᴰ x l × List·Memᴰ y (f x)
   unfolding flatMap
   flat-out f [] m = absurd (List·Memᴰ·not-nil m)
-  flat-out f (z ∷ l) {y} m = ⊎-elim (λ (n : List·Memᴰ y (f z)). (z, List·Memᴰ·head refl, n)) (λ (n : List·Memᴰ y (flatMap f l)). let r = flat-out f l n in (r .0, List·Memᴰ·tail (r .1), r .2)) (List·Memᴰ·append-cases (f z) m)
+  flat-out f (z ∷ l) {y} m =
+      by-append (f z) m
+      (λ n. (z, List·Memᴰ·head refl, n))
+      (λ n. let r = flat-out f l n in (r .0, List·Memᴰ·tail (r .1), r .2))
 
   pub map-in : (f : A → B) (l : List A) {x : A} → List·Memᴰ x l → List·Memᴰ (f x) (map f l)
   map-in f [] m = absurd (List·Memᴰ·not-nil m)
@@ -141,12 +167,18 @@ member-not x l f = by-test (member x l) (λ e. absurd (f (member-out x l e))) (�
 pub up-in : (a k x : ℕ) → a ≤ x → x < a + k → List·Memᴰ x (upFrom a k)
 unfolding upFrom
 up-in a zero x l u = absurd (omega arith)
-up-in a (suc k) x l u = by-test (eqb x a) (λ e. List·Memᴰ·head (eqb-true x a e)) (λ e. let n : x ≡ a → ⊥ = eqb-false x a e in List·Memᴰ·tail (up-in (suc a) k x (omega (arith, n)) (omega arith)))
+up-in a (suc k) x l u =
+    by-test (eqb x a)
+    (λ e. List·Memᴰ·head (eqb-true x a e))
+    (λ e. let n : x ≡ a → ⊥ = eqb-false x a e in List·Memᴰ·tail (up-in (suc a) k x (omega (arith, n)) (omega arith)))
 
 pub up-out : (a k : ℕ) {x : ℕ} → List·Memᴰ x (upFrom a k) → (a ≤ x) × (x < a + k)
 unfolding upFrom
 up-out a zero m = absurd (List·Memᴰ·not-nil m)
-up-out a (suc k) {x} m = by-mem m (λ e. (omega arith, omega arith)) (λ n. let r = up-out (suc a) k n in (omega (arith, r .0), omega (arith, r .1)))
+up-out a (suc k) {x} m =
+    by-mem m
+    (λ e. (omega arith, omega arith))
+    (λ n. let r = up-out (suc a) k n in (omega (arith, r .0), omega (arith, r .1)))
 
 pub up-length : (a k : ℕ) → length (upFrom a k) ≡ k
 unfolding upFrom

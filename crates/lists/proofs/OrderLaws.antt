@@ -2,7 +2,7 @@
 use mathlib.Core.Path.{_≡_, refl, sym, ap, _∙_}
 use mathlib.Core.Logic.{_⊎_, _↔_, inl, inr, ⊎-elim}
 use mathlib.Core.Bool.{Bool, true, false}
-use mathlib.Core.List.{List, [], _∷_, _++_, map, List·Memᴰ, List·Memᴰ·head, List·Memᴰ·tail, List·Memᴰ·not-nil, List·Memᴰ·append-cases}
+use mathlib.Core.List.{List, [], _∷_, _++_, map, List·Memᴰ, List·Memᴰ·head, List·Memᴰ·tail, List·Memᴰ·not-nil}
 use mathlib.Core.Option.{none, some}
 use Prim.Native.Nat.{ℕ, zero, suc, _+_, _≤_, _<_}
 use native.Mathlib.Omega.{arith}
@@ -10,8 +10,8 @@ use lib.Dec.{leb, ltb}
 use lib.ListN.{length, length-append}
 use borrow.Author.Tests.{lt-ltb, le-ltb, ltb-true, le-leb, leb-true, leb-false}
 use Rattle.lists.specs.Lists.{anyOf, filterBy, firstBy, flatMap, upFrom, range}
-use Rattle.lists.specs.Order.{Ascending, Distinct, headOf, sumOf}
-use Rattle.lists.proofs.Cases.{by-test, by-found, by-mem, clash, both}
+use Rattle.lists.specs.Order.{Ascending, Distinct, firstElement, sumOf}
+use Rattle.lists.proofs.Cases.{by-test, by-found, by-mem, by-append, clash, both}
 use Rattle.lists.proofs.ListLaws.{First, filter-out, map-out, flat-out, up-out, find-none, find-none-of, find-some, find-in}
 
 -- k where the test passes, else 0
@@ -20,18 +20,22 @@ onlyIf true k = k
 onlyIf false k = 0
 
 module _ {A : Type 0} where
-  pub ascending-append : (R : A → A → Bool) (l m : List A) → Ascending R l → Ascending R m → ((x y : A) → List·Memᴰ x l → List·Memᴰ y m → R x y ≡ true) → Ascending R (l ++ m)
+  pub ascending-append : (R : A → A → Bool) (l m : List A) → Ascending R l → Ascending R m
+      → ((x y : A) → List·Memᴰ x l → List·Memᴰ y m → R x y ≡ true) → Ascending R (l ++ m)
   ascending-append R [] m sl sm c = sm
   ascending-append R (x ∷ l) m sl sm c = (
-    λ y n. ⊎-elim (λ (k : List·Memᴰ y l). sl .0 y k) (λ (k : List·Memᴰ y m). c x y (List·Memᴰ·head refl) k) (List·Memᴰ·append-cases l n),
+    λ y n. by-append l n (λ k. sl .0 y k) (λ k. c x y (List·Memᴰ·head refl) k),
     ascending-append R l m (sl .1) sm (λ a b k j. c a b (List·Memᴰ·tail k) j),
   )
 
   -- an order that follows from another on the list's elements
-  pub ascending-by : (R Q : A → A → Bool) (l : List A) → ((x y : A) → List·Memᴰ x l → List·Memᴰ y l → R x y ≡ true → Q x y ≡ true) → Ascending R l → Ascending Q l
+  pub ascending-by : (R Q : A → A → Bool) (l : List A)
+      → ((x y : A) → List·Memᴰ x l → List·Memᴰ y l → R x y ≡ true → Q x y ≡ true) → Ascending R l → Ascending Q l
   ascending-by R Q [] f h = tt
-  ascending-by R Q (x ∷ l) f h =
-      (λ y n. f x y (List·Memᴰ·head refl) (List·Memᴰ·tail n) (h .0 y n), ascending-by R Q l (λ a b m n. f a b (List·Memᴰ·tail m) (List·Memᴰ·tail n)) (h .1))
+  ascending-by R Q (x ∷ l) f h = (
+    λ y n. f x y (List·Memᴰ·head refl) (List·Memᴰ·tail n) (h .0 y n),
+    ascending-by R Q l (λ a b m n. f a b (List·Memᴰ·tail m) (List·Memᴰ·tail n)) (h .1),
+  )
 
   pub ascending-filter : (R : A → A → Bool) (p : A → Bool) (l : List A) → Ascending R l → Ascending R (filterBy p l)
   unfolding filterBy
@@ -48,10 +52,14 @@ module _ {A : Type 0} where
   ascending-equal R i [] (y ∷ m) sl sm f g = absurd (List·Memᴰ·not-nil (g y (List·Memᴰ·head refl)))
   ascending-equal R i (x ∷ l) [] sl sm f g = absurd (List·Memᴰ·not-nil (f x (List·Memᴰ·head refl)))
   ascending-equal R i (x ∷ l) (y ∷ m) sl sm f g =
-      let e : x ≡ y = by-mem (f x (List·Memᴰ·head refl)) (λ q. q) (λ n. by-mem (g y (List·Memᴰ·head refl)) (λ q. sym q) (λ k. absurd (i x y (sl .0 y k) (sm .0 x n)))) in
+      let before-itself : (z : A) → R z z ≡ true → ⊥ = λ z k. i z z k k in
+      let e : x ≡ y =
+      by-mem (f x (List·Memᴰ·head refl))
+      (λ q. q)
+      (λ n. by-mem (g y (List·Memᴰ·head refl)) (λ q. sym q) (λ k. absurd (i x y (sl .0 y k) (sm .0 x n)))) in
       let t : l ≡ m = ascending-equal R i l m (sl .1) (sm .1)
-      (λ z n. by-mem (f z (List·Memᴰ·tail n)) (λ q. let b : z ≡ x = q ∙ sym e in let c : R x x ≡ true = ap (R x) (sym b) ∙ sl .0 z n in absurd (i x x c c)) (λ k. k))
-      (λ z n. by-mem (g z (List·Memᴰ·tail n)) (λ q. let b : z ≡ y = q ∙ e in let c : R y y ≡ true = ap (R y) (sym b) ∙ sm .0 z n in absurd (i y y c c)) (λ k. k)) in
+      (λ z n. by-mem (f z (List·Memᴰ·tail n)) (λ q. absurd (before-itself x (ap (R x) (e ∙ sym q) ∙ sl .0 z n))) (λ k. k))
+      (λ z n. by-mem (g z (List·Memᴰ·tail n)) (λ q. absurd (before-itself y (ap (R y) (sym e ∙ sym q) ∙ sm .0 z n))) (λ k. k)) in
       cc
 
   -- in an order with no element before itself, a list in order has no repetition
@@ -64,21 +72,22 @@ module _ {A : Type 0} where
   ascending-after R (z ∷ l) m x y s k = ascending-after R l m x y (s .1) k
 
   -- in a list in order, the first that passes comes before every other that does
-  pub first-before : (R : A → A → Bool) {p : A → Bool} {l : List A} {x : A} → First p l x → Ascending R l → (y : A) → List·Memᴰ y l → p y ≡ true → (x ≡ y) ⊎ (R x y ≡ true)
+  pub first-before : (R : A → A → Bool) {p : A → Bool} {l : List A} {x : A} → First p l x
+      → Ascending R l → (y : A) → List·Memᴰ y l → p y ≡ true → (x ≡ y) ⊎ (R x y ≡ true)
   first-before R {p} {l} {x} r s y m h =
-      ⊎-elim
+      by-append (r .pre) (rw (r .split) at m)
       (λ k. both h (r .before k))
       (λ k. by-mem k (λ e. inl (sym e)) (λ n. inr (ascending-after R (r .pre) (r .post) x y (rw (r .split) at s) n)))
-      (List·Memᴰ·append-cases (r .pre) (rw (r .split) at m))
 
-  pub first-least : (R : A → A → Bool) (p : A → Bool) (l : List A) → Ascending R l → {c : A} → firstBy p l ≡ some c → {x : A} → List·Memᴰ x l → p x ≡ true
+  pub first-least : (R : A → A → Bool) (p : A → Bool) (l : List A) → Ascending R l
+      → {c : A} → firstBy p l ≡ some c → {x : A} → List·Memᴰ x l → p x ≡ true
       → (c ≡ x) ⊎ (R c x ≡ true)
   first-least R p l s e {x} m h = first-before R (find-some p l e) s x m h
 
   -- two lists in one order with the same members that pass have the same first that passes
-  pub first-agree : (R : A → A → Bool) → ((x : A) → R x x ≡ false) → ((x y z : A) → R x y ≡ true → R y z ≡ true → R x z ≡ true) → (p : A → Bool) (l m : List A)
-      → Ascending R l → Ascending R m → ((x : A) → p x ≡ true → List·Memᴰ x l → List·Memᴰ x m) → ((x : A) → p x ≡ true → List·Memᴰ x m → List·Memᴰ x l)
-      → firstBy p l ≡ firstBy p m
+  pub first-agree : (R : A → A → Bool) → ((x : A) → R x x ≡ false) → ((x y z : A) → R x y ≡ true → R y z ≡ true → R x z ≡ true)
+      → (p : A → Bool) (l m : List A) → Ascending R l → Ascending R m → ((x : A) → p x ≡ true → List·Memᴰ x l → List·Memᴰ x m)
+      → ((x : A) → p x ≡ true → List·Memᴰ x m → List·Memᴰ x l) → firstBy p l ≡ firstBy p m
   first-agree R i t p l m sl sm f g =
       by-found (firstBy p l)
       (λ e. e ∙ sym (find-none-of p m (λ x n. by-test (p x) (λ h. both h (find-none p l e (g x h n))) (λ h. h))))
@@ -89,23 +98,27 @@ module _ {A : Type 0} where
       let j = find-some p m k .here in
       let z : x ≡ y =
       ⊎-elim (λ (q : x ≡ y). q)
-      (λ (q : R x y ≡ true). ⊎-elim (λ (r : y ≡ x). sym r) (λ (r : R y x ≡ true). both (t x y x q r) (i x)) (first-least R p m sm k (f x h (find-in p l e)) h))
+      (λ (q : R x y ≡ true). ⊎-elim
+      (λ (r : y ≡ x). sym r)
+      (λ (r : R y x ≡ true). both (t x y x q r) (i x))
+      (first-least R p m sm k (f x h (find-in p l e)) h))
       (first-least R p l sl e (g y j (find-in p m k)) j) in
       e ∙ ap some z ∙ sym k))
 
-  pub head-least : (R : A → A → Bool) (l : List A) → Ascending R l → {c : A} → headOf l ≡ some c → {x : A} → List·Memᴰ x l → (c ≡ x) ⊎ (R c x ≡ true)
+  pub head-least : (R : A → A → Bool) (l : List A) → Ascending R l
+      → {c : A} → firstElement l ≡ some c → {x : A} → List·Memᴰ x l → (c ≡ x) ⊎ (R c x ≡ true)
   head-least R [] s e m = absurd (List·Memᴰ·not-nil m)
   head-least R (y ∷ ys) s {c} e {x} m = let z : y ≡ c = cc in by-mem m (λ r. inl (cc)) (λ n. inr (rw (← z) (s .0 x n)))
 
-  pub head-in : (l : List A) {x : A} → headOf l ≡ some x → List·Memᴰ x l
+  pub head-in : (l : List A) {x : A} → firstElement l ≡ some x → List·Memᴰ x l
   head-in [] e = clash (cc e)
   head-in (y ∷ ys) {x} e = let z : x ≡ y = cc in List·Memᴰ·head z
 
-  pub head-none : (l : List A) → (headOf l ≡ none) ↔ (leb 1 (length l) ≡ false)
+  pub head-none : (l : List A) → (firstElement l ≡ none) ↔ (leb 1 (length l) ≡ false)
   head-none [] = (λ e. refl, λ e. refl)
   head-none (x ∷ l) = (λ e. clash (cc e), λ e. both (le-leb 1 (suc (length l)) (omega arith)) e)
 
-  -- sums
+  -- a sum is no less where no summand is less
   pub sum-mono : (f g : A → ℕ) (l : List A) → ((x : A) → List·Memᴰ x l → f x ≤ g x) → sumOf f l ≤ sumOf g l
   unfolding sumOf
   sum-mono f g [] h = omega arith
@@ -128,10 +141,13 @@ module _ {A : Type 0} where
   sum-filter f p [] = refl
   sum-filter f p (x ∷ l) = by-test (p x) (λ q. rw (q, filterBy, sum-filter f p l)) (λ q. rw (q, filterBy) (omega (arith, sum-filter f p l)))
 
-pub ascending-map : {A B : Type 0} (R : A → A → Bool) (Q : B → B → Bool) (f : A → B) → ((x y : A) → R x y ≡ true → Q (f x) (f y) ≡ true) → (l : List A)
-    → Ascending R l → Ascending Q (map f l)
+pub ascending-map : {A B : Type 0} (R : A → A → Bool) (Q : B → B → Bool) (f : A → B)
+    → ((x y : A) → R x y ≡ true → Q (f x) (f y) ≡ true) → (l : List A) → Ascending R l → Ascending Q (map f l)
 ascending-map R Q f h [] s = tt
-ascending-map R Q f h (x ∷ l) s = (λ y n. let r = map-out f l n in rw (r .2) (h x (r .0) (s .0 (r .0) (r .1))), ascending-map R Q f h l (s .1))
+ascending-map R Q f h (x ∷ l) s = (
+  λ y n. let r = map-out f l n in rw (r .2) (h x (r .0) (s .0 (r .0) (r .1))),
+  ascending-map R Q f h l (s .1),
+)
 
 pub length-map : {A B : Type 0} (f : A → B) (l : List A) → length (map f l) ≡ length l
 length-map f [] = refl

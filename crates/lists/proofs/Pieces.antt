@@ -23,7 +23,7 @@ up-at a zero i d h = absurd (omega arith)
 up-at a (suc k) zero d h = omega arith
 up-at a (suc k) (suc i) d h = up-at (suc a) k i d (omega arith) ∙ omega arith
 
--- joined pieces
+-- the pieces of lists joined
 module _ {A B : Type 0} where
   pub flat-append : (f : A → List B) (l m : List A) → flatMap f (l ++ m) ≡ flatMap f l ++ flatMap f m
   unfolding flatMap

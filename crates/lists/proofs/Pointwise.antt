@@ -63,10 +63,13 @@ module _ {A : Type 0} where
 pub filter-length : {A : Type 0} (p : A → Bool) (l : List A) → length (filterBy p l) ≤ length l
 unfolding filterBy
 filter-length p [] = omega arith
-filter-length p (x ∷ l) = by-test (p x) (λ e. rw (e, filterBy) (omega (arith, filter-length p l))) (λ e. rw (e, filterBy) (omega (arith, filter-length p l)))
+filter-length p (x ∷ l) =
+    let ih : length (filterBy p l) ≤ length l = filter-length p l in
+    by-test (p x) (λ e. rw (e, filterBy) (omega arith)) (λ e. rw (e, filterBy) (omega arith))
 
 -- a stricter test picks no more, and fewer where it refuses a member that the other picks
-pub filter-fewer : {A : Type 0} (p q : A → Bool) (l : List A) → ((x : A) → List·Memᴰ x l → p x ≡ true → q x ≡ true) → length (filterBy p l) ≤ length (filterBy q l)
+pub filter-fewer : {A : Type 0} (p q : A → Bool) (l : List A)
+    → ((x : A) → List·Memᴰ x l → p x ≡ true → q x ≡ true) → length (filterBy p l) ≤ length (filterBy q l)
 unfolding filterBy
 filter-fewer p q [] f = omega arith
 filter-fewer p q (x ∷ l) f =
@@ -75,7 +78,8 @@ filter-fewer p q (x ∷ l) f =
     (λ t. rw (t, f x (List·Memᴰ·head refl) t, filterBy) (omega arith))
     (λ t. by-test (q x) (λ k. rw (t, k, filterBy) (omega arith)) (λ k. rw (t, k, filterBy) ih))
 
-pub filter-strictly : {A : Type 0} (p q : A → Bool) (l : List A) → ((x : A) → List·Memᴰ x l → p x ≡ true → q x ≡ true) → {z : A} → List·Memᴰ z l
+pub filter-strictly : {A : Type 0} (p q : A → Bool) (l : List A)
+    → ((x : A) → List·Memᴰ x l → p x ≡ true → q x ≡ true) → {z : A} → List·Memᴰ z l
     → p z ≡ false → q z ≡ true → length (filterBy p l) < length (filterBy q l)
 unfolding filterBy
 filter-strictly {A} p q [] f m a b = absurd (List·Memᴰ·not-nil m)
@@ -98,7 +102,10 @@ flat-same f g (x ∷ l) h = rw (h x (List·Memᴰ·head refl), flat-same f g l (
 pub up-append : (a k j : ℕ) → upFrom a (k + j) ≡ upFrom a k ++ upFrom (a + k) j
 unfolding upFrom
 up-append a zero j = let e : 0 + j ≡ j = omega arith in let z : a + 0 ≡ a = omega arith in rw (e, z)
-up-append a (suc k) j = let e : suc k + j ≡ suc (k + j) = omega arith in let z : a + suc k ≡ suc a + k = omega arith in rw (e, z, up-append (suc a) k j)
+up-append a (suc k) j =
+    let e : suc k + j ≡ suc (k + j) = omega arith in
+    let z : a + suc k ≡ suc a + k = omega arith in
+    rw (e, z, up-append (suc a) k j)
 
 -- a test that fails from n on picks the same from a longer range
 pub filter-range : (p : ℕ → Bool) (n m : ℕ) → n ≤ m → ((x : ℕ) → n ≤ x → x < m → p x ≡ false) → filterBy p (range m) ≡ filterBy p (range n)
@@ -106,7 +113,9 @@ unfolding range
 filter-range p n m h f =
     let e : m ≡ n + (m - n) = omega arith in
     let z : upFrom 0 m ≡ upFrom 0 n ++ upFrom (0 + n) (m - n) = ap (upFrom 0) e ∙ up-append 0 n (m - n) in
-    rw (z, filter-append, filter-none p (upFrom (0 + n) (m - n)) (λ x k. let r = up-out (0 + n) (m - n) k in f x (omega (arith, r .0)) (omega (arith, r .1)))) (append-nil (filterBy p (upFrom 0 n)))
+    let after : filterBy p (upFrom (0 + n) (m - n)) ≡ [] = filter-none p (upFrom (0 + n) (m - n))
+    (λ x k. let r = up-out (0 + n) (m - n) k in f x (omega (arith, r .0)) (omega (arith, r .1))) in
+    rw (z, filter-append, after) (append-nil (filterBy p (upFrom 0 n)))
 
 -- pigeonhole: different numbers below n are at most n
 pub distinct-short : (n : ℕ) (l : List ℕ) → Distinct l → ((x : ℕ) → List·Memᴰ x l → x < n) → length l ≤ n

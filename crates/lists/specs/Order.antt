@@ -16,9 +16,9 @@ module _ {A : Type 0} where
   Distinct [] = Unit {0}
   Distinct (x ∷ xs) = (List·Memᴰ x xs → ⊥) × Distinct xs
 
-  abbrev pub headOf : List A → Option A
-  headOf [] = none
-  headOf (x ∷ xs) = some x
+  abbrev pub firstElement : List A → Option A
+  firstElement [] = none
+  firstElement (x ∷ xs) = some x
 
   unfoldable pub sumOf : (A → ℕ) → List A → ℕ
   sumOf f [] = 0

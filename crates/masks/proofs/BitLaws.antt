@@ -12,7 +12,7 @@ use lib.Pow.{pow-pos, pow-lt, pow-add, shl-shr, shr-shr, split, shl-exact}
 use lib.Bits.{bitAnd, bitOr, and-mask, or-shr, or-mod, or-lt, or-zero-r, or-block, or-step}
 use lib.Count.{ones, ones-cat, ones-step}
 use borrow.Author.Tests.{eqb-false, eq-eqb, ne-eqb}
-use Rattle.masks.specs.Mask.{bitAt, testBit, withBit}
+use Rattle.masks.specs.promises.Mask.{bitAt, testBit, withBit}
 
 -- a digit is 0 or 1
 pub bit-cases : (n k : ℕ) → (bitAt n k ≡ 0) ⊎ (bitAt n k ≡ 1)

@@ -9,7 +9,7 @@ use native.Mathlib.Omega.{arith}
 use native.Mathlib.Decide.{decLt, ℕ-discrete}
 use lib.Dec.{ltb}
 use borrow.Author.Tests.{lt-ltb, le-ltb}
-use Rattle.masks.specs.Mask.{testBit, withBit}
+use Rattle.masks.specs.promises.Mask.{testBit, withBit}
 use Rattle.masks.proofs.BitLaws.{none-from, test-with-same, test-with-other}
 
 -- the empty mask has no place

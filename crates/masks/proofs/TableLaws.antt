@@ -2,7 +2,7 @@
 use mathlib.Core.Path.{_≡_, refl}
 use Prim.Native.Nat.{ℕ, zero, suc}
 use lib.ListN.{getD, replicate}
-use Rattle.masks.specs.Table.{noRow, maskIn}
+use Rattle.masks.specs.promises.Table.{noRow, maskIn}
 use Rattle.masks.specs.declared.Row.{Row}
 
 pub getD-zeros : (n i : ℕ) → getD {A = ℕ} (replicate n 0) i 0 ≡ 0

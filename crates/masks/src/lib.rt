@@ -1,20 +1,22 @@
 // Sets of up to 32 places as masks of 32 bits, rows of 32 masks, and tables of 32 rows, by value.
 ghost use mathlib.Core.Path.{_≡_};
 ghost use Prim.Native.Nat.{ℕ, _<_};
-ghost use Rattle.masks.specs.Mask.{testBit, withBit};
-ghost use Rattle.masks.specs.Table.{maskIn, maskAt};
+ghost use Rattle.limits.specs.Limits.{mostParties, maskPlaces};
+ghost use Rattle.masks.specs.promises.Mask.{testBit, withBit};
+ghost use Rattle.masks.specs.promises.Table.{maskIn, maskAt};
+use limits::MOST_PARTIES;
 
 pub struct Row {
-    pub masks: [u32; 32],
+    pub masks: [u32; MOST_PARTIES],
 }
 
 pub struct Table {
-    pub rows: [Row; 32],
+    pub rows: [Row; MOST_PARTIES],
 }
 
 // Whether a place of the mask is set.
 pub fn has(mask: u32, place: u32) -> bool
-    requires { ⌜ place < 32 ⌝ }
+    requires { ⌜ place < maskPlaces ⌝ }
     ensures { λ r. ⌜ r ≡ testBit mask place ⌝ }
 {
     (mask >> place) & 1 == 1
@@ -22,7 +24,7 @@ pub fn has(mask: u32, place: u32) -> bool
 
 // The mask with one more place set.
 pub fn with(mask: u32, place: u32) -> u32
-    requires { ⌜ place < 32 ⌝ }
+    requires { ⌜ place < maskPlaces ⌝ }
     ensures { λ r. ⌜ r ≡ withBit mask place ⌝ }
 {
     mask | (1u32 << place)
@@ -32,7 +34,9 @@ pub fn with(mask: u32, place: u32) -> u32
 pub fn empty_row() -> Row
     ensures { λ r. ⌜ ((v : ℕ) → maskIn r v ≡ 0) ⌝ }
 {
-    Row { masks: [0u32; 32] }
+    Row {
+        masks: [0u32; MOST_PARTIES],
+    }
 }
 
 // A table of empty rows.
@@ -40,12 +44,14 @@ pub fn empty_table() -> Table
     ensures { λ r. ⌜ ((u v : ℕ) → maskAt r u v ≡ 0) ⌝ }
 {
     let row = empty_row();
-    Table { rows: [row; 32] }
+    Table {
+        rows: [row; MOST_PARTIES],
+    }
 }
 
 // The row with another mask for v.
 pub fn put_mask(mut row: Row, v: usize, mask: u32) -> Row
-    requires { ⌜ v < 32 ⌝ }
+    requires { ⌜ v < mostParties ⌝ }
     ensures same { λ r. ⌜ maskIn r v ≡ mask ⌝ }
     ensures other { λ r. ⌜ ((x : ℕ) → (x ≡ v → ⊥) → maskIn r x ≡ maskIn row x) ⌝ }
 {
@@ -55,7 +61,7 @@ pub fn put_mask(mut row: Row, v: usize, mask: u32) -> Row
 
 // The row with one more place set in the mask of v.
 pub fn add(row: Row, v: usize, place: u32) -> Row
-    requires { ⌜ (v < 32) × (place < 32) ⌝ }
+    requires { ⌜ (v < mostParties) × (place < maskPlaces) ⌝ }
     ensures same { λ r. ⌜ maskIn r v ≡ withBit (maskIn row v) place ⌝ }
     ensures other { λ r. ⌜ ((x : ℕ) → (x ≡ v → ⊥) → maskIn r x ≡ maskIn row x) ⌝ }
 {
@@ -65,7 +71,7 @@ pub fn add(row: Row, v: usize, place: u32) -> Row
 
 // The table with another row for u.
 pub fn put_row(mut table: Table, u: usize, row: Row) -> Table
-    requires { ⌜ u < 32 ⌝ }
+    requires { ⌜ u < mostParties ⌝ }
     ensures same { λ r. ⌜ ((v : ℕ) → maskAt r u v ≡ maskIn row v) ⌝ }
     ensures other { λ r. ⌜ ((x v : ℕ) → (x ≡ u → ⊥) → maskAt r x v ≡ maskAt table x v) ⌝ }
 {

@@ -1,8 +1,9 @@
--- Building a pair's term against the pairs from number k on: what is left to do is what the definition does, and the bytes so far are the term so far.
+-- Building a pair's term against the pairs from number k on: what is left to do is what the definition does,
+-- and the bytes so far are the term so far.
 use mathlib.Core.Path.{_≡_, refl, sym, ap, _∙_}
-use mathlib.Core.Bool.{true, false, not, _&&_}
+use mathlib.Core.Bool.{Bool, true, false, not, _&&_}
 use mathlib.Core.List.{List, [], _∷_, _++_}
-use mathlib.Core.Option.{none, some}
+use mathlib.Core.Option.{Option, none, some}
 use Prim.Native.Nat.{ℕ, _+_, _*_, _/_, _%_, _≤_, _<_}
 use native.Mathlib.Omega.{arith}
 use lib.ListN.{length, take, drop, length-append}
@@ -12,54 +13,62 @@ use Rattle.lists.proofs.Cases.{by-test, and-left, and-right}
 use Rattle.lists.proofs.ListLaws.{find-in}
 use Rattle.lists.proofs.OrderLaws.{length-map}
 use Rattle.lists.proofs.Pointwise.{map-append}
-use Rattle.masks.specs.Mask.{testBit}
-use Rattle.masks.specs.Table.{maskIn}
-use Rattle.rebac.specs.Matter.{Matter, Pair, pair}
+use Rattle.masks.specs.promises.Mask.{testBit}
+use Rattle.masks.specs.promises.Table.{maskIn}
+use Rattle.rebac.specs.Matter.{Pair, IsPair}
 use Rattle.rebac.specs.Words.{Word}
 use Rattle.rebac.specs.Paths.{has}
 use Rattle.rebac.specs.Rules.{Problem, Item, Term, meets}
 use Rattle.rebac.specs.Verdict.{convertible, rivalled, wordsOf, ruling, judge}
-use Rattle.rebac.specs.Mining.{own, lacks, addAgainst, addAll, begin, termOf}
-use Rattle.rebac.specs.WhileMining.{rivalFrom, judgeFrom}
+use Rattle.rebac.specs.Mining.{itemOf, lacks, addAgainst, addAll, begin, termOf}
+use Rattle.rebac.specs.promises.WhileMining.{rivalFrom, judgeFrom}
 use Rattle.rebac.specs.Existence.{plainTerm}
 use Rattle.rebac.proofs.MiningLaws.{Owned, add-all, owned-more, begin-owned}
 use Rattle.rebac.proofs.WhileMining.{judge-from}
 use Rattle.graph.specs.declared.Archive.{Archive}
-use Rattle.graph.specs.Archive.{Shows}
-use Rattle.search.specs.Ask.{tableGraph}
+use Rattle.graph.proofs.LegalLaws.{pair-of}
+use Rattle.search.specs.promises.PairSearch.{tableGraph}
 use Rattle.fields.specs.Numbers.{u16Bytes, u16At}
 use Rattle.rule_bytes.specs.ListBytes.{encodeWord, encodeTerm}
-use Rattle.fields.specs.Writing.{put}
-use Rattle.rule_bytes.specs.Reading.{TermAt}
+use Rattle.fields.specs.promises.Writing.{put}
+use Rattle.rule_bytes.specs.promises.Reading.{TermAt}
 use Rattle.fields.proofs.NumberLaws.{u16-size}
 use Rattle.rule_bytes.proofs.RoundTrip.{words-more, word-size}
 use Rattle.fields.proofs.PutLaws.{put-length}
 use Rattle.rule_bytes.proofs.PlaceLaws.{term-ahead}
-use Rattle.mining.specs.Pairs.{pairAt, isPairAt, pairsFrom}
-use Rattle.mining.specs.Building.{problemIn, named, encodedTerm, firstBytes, termBytes, BuiltAs}
-use Rattle.mining.specs.declared.build.Built.the-variants.{Rival, Term as TermTo}
+use Rattle.mining.specs.promises.Pairs.{pairAt, isPairAt, pairsFrom}
+use Rattle.mining.specs.promises.Building.{problemIn, encodedTerm, firstBytes, termBytes, OutcomeAs, TermBegun}
+use Rattle.mining.specs.Values.{pairValue}
+use Rattle.mining.specs.declared.build.Outcome.the-variants.{Rival, Term as TermTo}
 use Rattle.mining.proofs.GridLaws.{pairs-numbered, pairs-skip, pairs-take, pairs-end}
-use Rattle.mining.proofs.ArchiveLaws.{problem-pairs, problem-permitted, owned-met, few-words, owned-fits}
+use Rattle.mining.proofs.ArchiveLaws.{problem-pairs, problem-permitted, owned-met, shown-bounded, words-bounded, owned-fits}
+
+-- an unpermitted pair q meets the term
+abbrev meetsIt : {P W : Type 0} → Problem P W → P → Term W → Bool
+meetsIt S q t = not (S .permitted q) && meets S q t
 
 -- one pair q against the term so far
 module _ {P W : Type 0} (S : Problem P W) (p : P) (t : Term W) (q : P) (qs : List P) where
-  add-none : (not (S .permitted q) && meets S q t) ≡ false → addAll S p t (q ∷ qs) ≡ addAll S p t qs
+  add-none : meetsIt S q t ≡ false → addAll S p t (q ∷ qs) ≡ addAll S p t qs
   unfolding addAll addAgainst
   add-none e = rw (e, addAgainst) refl
 
-  rival-none : (not (S .permitted q) && meets S q t) ≡ false → rivalFrom S p t (q ∷ qs) ≡ rivalFrom S p t qs
+  rival-none : meetsIt S q t ≡ false → rivalFrom S p t (q ∷ qs) ≡ rivalFrom S p t qs
   unfolding rivalFrom
   rival-none e = rw (e, rivalFrom) refl
 
-  rival-here : (not (S .permitted q) && meets S q t) ≡ true → firstBy (lacks S p q) (wordsOf S p) ≡ none → rivalFrom S p t (q ∷ qs) ≡ some q
+  rival-here : meetsIt S q t ≡ true → firstBy (lacks S p q) (wordsOf S p) ≡ none
+      → rivalFrom S p t (q ∷ qs) ≡ some q
   unfolding rivalFrom
   rival-here e f = rw (e, f, rivalFrom) refl
 
-  add-here : {w : W} → (not (S .permitted q) && meets S q t) ≡ true → firstBy (lacks S p q) (wordsOf S p) ≡ some w → addAll S p t (q ∷ qs) ≡ addAll S p (t ++ (own S p w ∷ [])) qs
+  add-here : {w : W} → meetsIt S q t ≡ true → firstBy (lacks S p q) (wordsOf S p) ≡ some w
+      → addAll S p t (q ∷ qs) ≡ addAll S p (t ++ (itemOf S p w ∷ [])) qs
   unfolding addAll addAgainst
   add-here e f = rw (e, f, addAgainst) refl
 
-  rival-on : {w : W} → (not (S .permitted q) && meets S q t) ≡ true → firstBy (lacks S p q) (wordsOf S p) ≡ some w → rivalFrom S p t (q ∷ qs) ≡ rivalFrom S p (t ++ (own S p w ∷ [])) qs
+  rival-on : {w : W} → meetsIt S q t ≡ true → firstBy (lacks S p q) (wordsOf S p) ≡ some w
+      → rivalFrom S p t (q ∷ qs) ≡ rivalFrom S p (t ++ (itemOf S p w ∷ [])) qs
   unfolding rivalFrom
   rival-on e f = rw (e, f, rivalFrom) refl
 
@@ -71,14 +80,15 @@ add-end : {P W : Type 0} (S : Problem P W) (p : P) (t : Term W) → addAll S p t
 unfolding addAll
 add-end S p t = refl
 
--- a pair with a word is judged by its first rival alone
-ruled-rival : {P W : Type 0} (S : Problem P W) (p q : P) (ws : List W) → (length ws ≡ 0 → ⊥) → ruling S p ws (some q) ≡ rivalled p q
+-- the verdict on a pair with a word goes by its first rival alone
+ruled-rival : {P W : Type 0} (S : Problem P W) (p q : P) (ws : List W) → (length ws ≡ 0 → ⊥)
+    → ruling S p ws (some q) ≡ rivalled p q
 ruled-rival S p q [] h = absurd (h refl)
 ruled-rival S p q (w ∷ ws) h = refl
 
-ruled-fit : {P W : Type 0} (S : Problem P W) (p : P) (ws : List W) → (length ws ≡ 0 → ⊥) → ruling S p ws none ≡ convertible
-ruled-fit S p [] h = absurd (h refl)
-ruled-fit S p (w ∷ ws) h = refl
+ruled-convertible : {P W : Type 0} (S : Problem P W) (p : P) (ws : List W) → (length ws ≡ 0 → ⊥) → ruling S p ws none ≡ convertible
+ruled-convertible S p [] h = absurd (h refl)
+ruled-convertible S p (w ∷ ws) h = refl
 
 begin-length : {P W : Type 0} (S : Problem P W) (p : P) (ws : List W) → (length ws ≡ 0 → ⊥) → length (begin S p ws) ≡ 1
 begin-length S p [] h = absurd (h refl)
@@ -88,126 +98,86 @@ begin-length S p (w ∷ ws) h = refl
 plain-more : (t : Term Word) (i : Item Word) → plainTerm (t ++ (i ∷ [])) ≡ plainTerm t ++ (i .word ∷ [])
 plain-more t i = map-append (λ j. j .word) t (i ∷ [])
 
-pub size-more : (t : Term Word) (i : Item Word) → length (encodedTerm (t ++ (i ∷ []))) ≡ length (encodedTerm t) + 1 + length (i .word)
+size-more : (t : Term Word) (i : Item Word) → length (encodedTerm (t ++ (i ∷ []))) ≡ length (encodedTerm t) + 1 + length (i .word)
 unfolding encodeTerm
 size-more t i =
-    rw (plain-more t i, words-more (plainTerm t) (i .word))
+    let ws = plainTerm t in
+    let w = i .word in
+    rw (plain-more t i, words-more ws w)
     (omega (
       arith,
-      length-append (u16Bytes (length (plainTerm t ++ (i .word ∷ [])))) (flatMap encodeWord (plainTerm t) ++ encodeWord (i .word)),
-      length-append (flatMap encodeWord (plainTerm t)) (encodeWord (i .word)),
-      length-append (u16Bytes (length (plainTerm t))) (flatMap encodeWord (plainTerm t)),
-      u16-size (length (plainTerm t ++ (i .word ∷ []))),
-      u16-size (length (plainTerm t)),
-      word-size (i .word),
+      length-append (u16Bytes (length (ws ++ (w ∷ [])))) (flatMap encodeWord ws ++ encodeWord w),
+      length-append (flatMap encodeWord ws) (encodeWord w),
+      length-append (u16Bytes (length ws)) (flatMap encodeWord ws),
+      u16-size (length (ws ++ (w ∷ []))),
+      u16-size (length ws),
+      word-size w,
     ))
 
-pub size-least : (t : Term Word) → 2 ≤ length (encodedTerm t)
+size-least : (t : Term Word) → 2 ≤ length (encodedTerm t)
 unfolding encodeTerm
-size-least t = omega (arith, length-append (u16Bytes (length (plainTerm t))) (flatMap encodeWord (plainTerm t)), u16-size (length (plainTerm t)))
+size-least t =
+    let n = length (plainTerm t) in
+    omega (arith, length-append (u16Bytes n) (flatMap encodeWord (plainTerm t)), u16-size n)
 
 module _ (S : Problem Pair Word) (p : Pair) where
   pub size-grows : (t : Term Word) (qs : List Pair) → length (encodedTerm t) ≤ length (encodedTerm (addAll S p t qs))
-  size-grows t qs = add-all S (λ u. length (encodedTerm t) ≤ length (encodedTerm u)) p (λ u w m h. omega (arith, size-more u (own S p w), h)) t qs (omega arith)
+  size-grows t qs =
+      add-all S (λ u. length (encodedTerm t) ≤ length (encodedTerm u)) p
+      (λ u w m h. omega (arith, size-more u (itemOf S p w), h)) t qs (omega arith)
 
   number-grows : (t : Term Word) (qs : List Pair) → length t ≤ length (addAll S p t qs)
-  number-grows t qs = add-all S (λ u. length t ≤ length u) p (λ u w m h. omega (arith, length-append u (own S p w ∷ []), h)) t qs (omega arith)
+  number-grows t qs =
+      add-all S (λ u. length t ≤ length u) p
+      (λ u w m h. omega (arith, length-append u (itemOf S p w ∷ []), h)) t qs (omega arith)
 
 pub put-drop : (b : List ℕ) (at : ℕ) (x : List ℕ) → at ≤ length b → drop at (put b at x) ≡ x ++ drop (at + length x) b
 unfolding put
 put-drop b at x h = drop-at (take at b) (x ++ drop (at + length x) b) at (length-take-le at b h)
+
+-- the test of an unpermitted pair by its number, the words that a pair has, and the first word of p's that q lacks
+abbrev pub unpermittedAt : Archive → ℕ → Bool
+unpermittedAt a k = isPairAt (a .parties) k && not (testBit (maskIn (a .permits) (k / 32)) (k % 32))
+
+abbrev pub hasIn : Archive → Pair → Word → Bool
+hasIn a = has (tableGraph (a .parties) (a .graph))
+
+abbrev pub lackedIn : Archive → Pair → Pair → Option Word
+lackedIn a p q = firstBy (lacks (problemIn a) p q) (wordsOf (problemIn a) p)
+
+-- the first rival that building against all pairs meets
+abbrev rivalIn : Archive → Pair → Option Pair
+rivalIn a p = rivalFrom (problemIn a) p (begin (problemIn a) p (wordsOf (problemIn a) p)) (problemIn a .pairs)
 
 -- the term so far, before the pair of number k
 pub record Building (a : Archive) (p : Pair) (at : ℕ) (b : List ℕ) (k number end : ℕ) (out : List ℕ) : Type 0 where
   pub term : Term Word
   pub owned : Owned (problemIn a) p term
   pub rest : addAll (problemIn a) p term (pairsFrom (a .parties) k) ≡ termOf (problemIn a) p
-  pub rivals : rivalFrom (problemIn a) p term (pairsFrom (a .parties) k) ≡ rivalFrom (problemIn a) p (begin (problemIn a) p (wordsOf (problemIn a) p)) (problemIn a .pairs)
+  pub rivals : rivalFrom (problemIn a) p term (pairsFrom (a .parties) k) ≡ rivalIn a p
   pub bytes : out ≡ put b at (encodedTerm term)
   pub words : number ≡ length term
   pub ends : end ≡ at + length (encodedTerm term)
 
-module _ (a : Archive) (p : Pair) (at : ℕ) (b : List ℕ) where
-  pub build-start : a .parties ≤ 32 → (length (wordsOf (problemIn a) p) ≡ 0 → ⊥) → (from : ℕ) → from ≡ at + length (firstBytes a p) → put b at (firstBytes a p) ≡ b
-      → Building a p at b 0 1 from b
+module _ {a : Archive} {p : Pair} {at from : ℕ} {b : List ℕ} (R : TermBegun a p at from b) where
+  pub begun-bounded : a .parties ≤ 32
+  begun-bounded = shown-bounded (R .shown)
+
+  pub build-start : Building a p at b 0 1 from b
   unfolding firstBytes termOf
-  build-start few full from e o =
-      let n : pairsFrom (a .parties) 0 ≡ problemIn a .pairs = pairs-numbered (a .parties) few ∙ sym (problem-pairs a) in
+  build-start =
+      let n : pairsFrom (a .parties) 0 ≡ problemIn a .pairs = pairs-numbered (a .parties) begun-bounded ∙ sym (problem-pairs a) in
       record {
         term = begin (problemIn a) p (wordsOf (problemIn a) p);
         owned = begin-owned (problemIn a) p (wordsOf (problemIn a) p) (λ w m. m);
         rest = rw n refl;
         rivals = rw n refl;
-        bytes = sym o;
-        words = sym (begin-length (problemIn a) p (wordsOf (problemIn a) p) full);
-        ends = e;
+        bytes = sym (R .stands);
+        words = sym (begin-length (problemIn a) p (wordsOf (problemIn a) p) (R .worded));
+        ends = R .ends;
       }
 
-  module _ (k number end : ℕ) (out : List ℕ) (h : k < 1024) (B : Building a p at b k number end out) where
-    -- the pair is no unpermitted one, or does not meet the term
-    pub build-pass : isPairAt (a .parties) k ≡ false → Building a p at b (k + 1) number end out
-    build-pass e = record {
-      term = B .term;
-      owned = B .owned;
-      rest = rw (pairs-skip (a .parties) k h e) at (B .rest);
-      rivals = rw (pairs-skip (a .parties) k h e) at (B .rivals);
-      bytes = B .bytes;
-      words = B .words;
-      ends = B .ends;
-    }
-
-    module _ (e : isPairAt (a .parties) k ≡ true) where
-      ahead : addAll (problemIn a) p (B .term) (pairAt k ∷ pairsFrom (a .parties) (k + 1)) ≡ termOf (problemIn a) p
-      ahead = rw (pairs-take (a .parties) k h e) at (B .rest)
-
-      ahead-rivals : rivalFrom (problemIn a) p (B .term) (pairAt k ∷ pairsFrom (a .parties) (k + 1)) ≡ rivalFrom (problemIn a) p (begin (problemIn a) p (wordsOf (problemIn a) p)) (problemIn a .pairs)
-      ahead-rivals = rw (pairs-take (a .parties) k h e) at (B .rivals)
-
-      pub build-unmet : (not (problemIn a .permitted (pairAt k)) && meets (problemIn a) (pairAt k) (B .term)) ≡ false → Building a p at b (k + 1) number end out
-      build-unmet f = record {
-        term = B .term;
-        owned = B .owned;
-        rest = sym (add-none (problemIn a) p (B .term) (pairAt k) _ f) ∙ ahead;
-        rivals = sym (rival-none (problemIn a) p (B .term) (pairAt k) _ f) ∙ ahead-rivals;
-        bytes = B .bytes;
-        words = B .words;
-        ends = B .ends;
-      }
-
-      module _ (f : (not (problemIn a .permitted (pairAt k)) && meets (problemIn a) (pairAt k) (B .term)) ≡ true) where
-        -- it lacks no word of p: the first rival
-        pub build-rival : (length (wordsOf (problemIn a) p) ≡ 0 → ⊥) → firstBy (lacks (problemIn a) p (pairAt k)) (wordsOf (problemIn a) p) ≡ none
-            → judge (problemIn a) p ≡ rivalled p (pairAt k)
-        unfolding judgeFrom
-        build-rival full g =
-            sym (judge-from (problemIn a) p)
-            ∙ ap (ruling (problemIn a) p (wordsOf (problemIn a) p)) (sym ahead-rivals ∙ rival-here (problemIn a) p (B .term) (pairAt k) _ f g)
-            ∙ ruled-rival (problemIn a) p (pairAt k) (wordsOf (problemIn a) p) full
-
-        -- it lacks a word: the first one is added
-        module _ (w : Word) (g : firstBy (lacks (problemIn a) p (pairAt k)) (wordsOf (problemIn a) p) ≡ some w) where
-          longer : addAll (problemIn a) p (B .term ++ (own (problemIn a) p w ∷ [])) (pairsFrom (a .parties) (k + 1)) ≡ termOf (problemIn a) p
-          longer = sym (add-here (problemIn a) p (B .term) (pairAt k) _ f g) ∙ ahead
-
-          pub build-more : Building a p at b (k + 1) (number + 1) (end + 1 + length w) (put b at (encodeTerm (plainTerm (B .term) ++ (w ∷ []))))
-          build-more = record {
-            term = B .term ++ (own (problemIn a) p w ∷ []);
-            owned = owned-more (problemIn a) p (B .term) w (find-in _ _ g) (B .owned);
-            rest = longer;
-            rivals = sym (rival-on (problemIn a) p (B .term) (pairAt k) _ f g) ∙ ahead-rivals;
-            bytes = ap (λ (l : List (List ℕ)). put b at (encodeTerm l)) (sym (plain-more (B .term) (own (problemIn a) p w)));
-            words = omega (arith, B .words, length-append (B .term) (own (problemIn a) p w ∷ []));
-            ends = omega (arith, B .ends, size-more (B .term) (own (problemIn a) p w));
-          }
-
-          pub room-more : end + 1 + length w ≤ at + length (termBytes a p)
-          unfolding termBytes
-          room-more =
-              let s = size-grows (problemIn a) p (B .term ++ (own (problemIn a) p w ∷ [])) (pairsFrom (a .parties) (k + 1)) in
-              let e = ap (λ (t : Term Word). length (encodedTerm t)) longer in
-              omega (arith, s, e, B .ends, size-more (B .term) (own (problemIn a) p w))
-
-  module _ (k number end : ℕ) (out : List ℕ) (B : Building a p at b k number end out) where
+  module _ {k number end : ℕ} {out : List ℕ} (B : Building a p at b k number end out) where
     -- the bytes so far have room, and are a term's
     pub build-room : (at + 2 ≤ end) × (end ≤ at + length (termBytes a p))
     unfolding termBytes
@@ -216,57 +186,167 @@ module _ (a : Archive) (p : Pair) (at : ℕ) (b : List ℕ) where
         let e = ap (λ (t : Term Word). length (encodedTerm t)) (B .rest) in
         (omega (arith, size-least (B .term), B .ends), omega (arith, s, e, B .ends))
 
-    pub build-few : length (termOf (problemIn a) p) ≤ 993 → length (B .term) ≤ 993
-    build-few h = omega (arith, number-grows (problemIn a) p (B .term) (pairsFrom (a .parties) k), ap length (B .rest), h)
+    pub build-bounded : number ≤ 993
+    build-bounded =
+        let g = number-grows (problemIn a) p (B .term) (pairsFrom (a .parties) k) in
+        omega (arith, g, ap length (B .rest), words-bounded (R .shown .1) p, B .words)
 
-    pub build-term-at : (M : Matter) → Shows M a → at ≤ length b → TermAt out at (plainTerm (B .term)) (drop (at + length (encodedTerm (B .term))) b)
-    build-term-at M s h = record {
-      bytes = ap (drop at) (B .bytes) ∙ put-drop b at (encodedTerm (B .term)) h;
-      fits = owned-fits M a s p (B .term) (B .owned) (build-few (few-words M a s p));
+    pub build-term-at : TermAt out at (plainTerm (B .term)) (drop (at + length (encodedTerm (B .term))) b)
+    build-term-at = record {
+      bytes = ap (drop at) (B .bytes) ∙ put-drop b at (encodedTerm (B .term)) (omega (arith, R .room));
+      fits = owned-fits (R .shown .1) p (B .term) (B .owned) (omega (arith, build-bounded, B .words));
     }
 
-    pub build-same : at + length (termBytes a p) ≤ length b → length out ≡ length b
-    build-same r = ap length (B .bytes) ∙ put-length b at (encodedTerm (B .term)) (omega (arith, build-room .1, B .ends, r))
+    pub build-same : length out ≡ length b
+    build-same = ap length (B .bytes) ∙ put-length b at (encodedTerm (B .term)) (omega (arith, build-room .1, B .ends, R .room))
 
-    pub build-count : (M : Matter) → Shows M a → at ≤ length b → number ≡ u16At out at
-    build-count M s h = B .words ∙ sym (length-map (λ i. i .word) (B .term)) ∙ term-ahead out at (plainTerm (B .term)) _ (build-term-at M s h) .number
+    pub build-count : number ≡ u16At out at
+    build-count =
+        B .words ∙ sym (length-map (λ i. i .word) (B .term)) ∙ term-ahead out at (plainTerm (B .term)) _ build-term-at .number
 
-  -- the same by the tests that the loops make
-  module _ (k number end : ℕ) (out : List ℕ) (h : k < 1024) (B : Building a p at b k number end out) where
-    pub extend-skip : (isPairAt (a .parties) k && not (testBit (maskIn (a .permits) (k / 32)) (k % 32))) ≡ false → Building a p at b (k + 1) number end out
-    extend-skip e =
-        by-test (isPairAt (a .parties) k)
-        (λ i. build-unmet k number end out h B i (rw (problem-permitted a (pairAt k), rw i at e) refl))
-        (λ i. build-pass k number end out h B i)
+    -- past the last pair the term is whole
+    pub build-end : 32 * a .parties ≤ k → OutcomeAs a p at b out (judge (problemIn a) p) (TermTo end)
+    unfolding judgeFrom termBytes
+    build-end past =
+        let S = problemIn a in
+        let r : rivalFrom S p (B .term) [] ≡ rivalIn a p = rw (pairs-end (a .parties) k past) at (B .rivals) in
+        let t : B .term ≡ termOf S p = sym (add-end S p (B .term)) ∙ (rw (pairs-end (a .parties) k past) at (B .rest)) in
+        let j : judge S p ≡ convertible =
+        sym (judge-from S p)
+        ∙ ap (ruling S p (wordsOf S p)) (sym r ∙ rival-end S p (B .term))
+        ∙ ruled-convertible S p (wordsOf S p) (R .worded) in
+        rw j (
+          ap TermTo (B .ends ∙ ap (λ (x : Term Word). at + length (encodedTerm x)) t),
+          B .bytes ∙ ap (λ (x : Term Word). put b at (encodedTerm x)) t,
+        )
 
-    module _ (M : Matter) (s : Shows M a) (e : (isPairAt (a .parties) k && not (testBit (maskIn (a .permits) (k / 32)) (k % 32))) ≡ true) where
-      its-pair : isPairAt (a .parties) k ≡ true
-      its-pair = and-left (isPairAt (a .parties) k) (not (testBit (maskIn (a .permits) (k / 32)) (k % 32))) e
+    module _ (turn : k < 32 * a .parties) where
+      small : k < 1024
+      small = omega (arith, begun-bounded)
 
-      its-test : (not (problemIn a .permitted (pairAt k)) && meets (problemIn a) (pairAt k) (B .term)) ≡ allOf (has (tableGraph (a .parties) (a .graph)) (pairAt k)) (plainTerm (B .term))
-      its-test = rw (problem-permitted a (pairAt k), and-right (isPairAt (a .parties) k) (not (testBit (maskIn (a .permits) (k / 32)) (k % 32))) e) (owned-met M a s p (pairAt k) (B .term) (B .owned))
+      -- the pair is passed: it is none,
+      build-pass : isPairAt (a .parties) k ≡ false → Building a p at b (k + 1) number end out
+      build-pass e = record {
+        term = B .term;
+        owned = B .owned;
+        rest = rw (pairs-skip (a .parties) k small e) at (B .rest);
+        rivals = rw (pairs-skip (a .parties) k small e) at (B .rivals);
+        bytes = B .bytes;
+        words = B .words;
+        ends = B .ends;
+      }
 
-      pub extend-unmet : allOf (has (tableGraph (a .parties) (a .graph)) (pairAt k)) (plainTerm (B .term)) ≡ false → Building a p at b (k + 1) number end out
-      extend-unmet f = build-unmet k number end out h B its-pair (its-test ∙ f)
+      module _ (e : isPairAt (a .parties) k ≡ true) where
+        ahead : addAll (problemIn a) p (B .term) (pairAt k ∷ pairsFrom (a .parties) (k + 1)) ≡ termOf (problemIn a) p
+        ahead = rw (pairs-take (a .parties) k small e) at (B .rest)
 
-      module _ (f : allOf (has (tableGraph (a .parties) (a .graph)) (pairAt k)) (plainTerm (B .term)) ≡ true) where
-        pub extend-rival : (length (wordsOf (problemIn a) p) ≡ 0 → ⊥) → firstBy (lacks (problemIn a) p (pairAt k)) (wordsOf (problemIn a) p) ≡ none
-            → BuiltAs a p at b out (judge (problemIn a) p) (Rival (named (pairAt k)))
-        extend-rival full g = rw (build-rival k number end out h B its-pair (its-test ∙ f) full g) refl
+        ahead-rivals : rivalFrom (problemIn a) p (B .term) (pairAt k ∷ pairsFrom (a .parties) (k + 1)) ≡ rivalIn a p
+        ahead-rivals = rw (pairs-take (a .parties) k small e) at (B .rivals)
 
-        pub extend-more : (w : Word) → firstBy (lacks (problemIn a) p (pairAt k)) (wordsOf (problemIn a) p) ≡ some w
-            → Building a p at b (k + 1) (number + 1) (end + 1 + length w) (put b at (encodeTerm (plainTerm (B .term) ++ (w ∷ []))))
-        extend-more w g = build-more k number end out h B its-pair (its-test ∙ f) w g
+        -- or it is permitted or does not meet the term
+        build-unmet : meetsIt (problemIn a) (pairAt k) (B .term) ≡ false → Building a p at b (k + 1) number end out
+        build-unmet f = record {
+          term = B .term;
+          owned = B .owned;
+          rest = sym (add-none (problemIn a) p (B .term) (pairAt k) _ f) ∙ ahead;
+          rivals = sym (rival-none (problemIn a) p (B .term) (pairAt k) _ f) ∙ ahead-rivals;
+          bytes = B .bytes;
+          words = B .words;
+          ends = B .ends;
+        }
 
-        pub extend-room : (w : Word) → firstBy (lacks (problemIn a) p (pairAt k)) (wordsOf (problemIn a) p) ≡ some w → end + 1 + length w ≤ at + length (termBytes a p)
-        extend-room w g = room-more k number end out h B its-pair (its-test ∙ f) w g
+      pub extend-skip : unpermittedAt a k ≡ false → Building a p at b (k + 1) number end out
+      extend-skip e =
+          by-test (isPairAt (a .parties) k)
+          (λ i. build-unmet i (rw (problem-permitted a (pairAt k), rw i at e) refl))
+          build-pass
 
-  -- past the last pair the term is whole
-  pub build-end : (k number end : ℕ) (out : List ℕ) → 32 * a .parties ≤ k → (length (wordsOf (problemIn a) p) ≡ 0 → ⊥) → Building a p at b k number end out
-      → BuiltAs a p at b out (judge (problemIn a) p) (TermTo end)
-  unfolding judgeFrom termBytes
-  build-end k number end out past full B =
-      let r : rivalFrom (problemIn a) p (B .term) [] ≡ rivalFrom (problemIn a) p (begin (problemIn a) p (wordsOf (problemIn a) p)) (problemIn a .pairs) = rw (pairs-end (a .parties) k past) at (B .rivals) in
-      let t : B .term ≡ termOf (problemIn a) p = sym (add-end (problemIn a) p (B .term)) ∙ (rw (pairs-end (a .parties) k past) at (B .rest)) in
-      let j : judge (problemIn a) p ≡ convertible = sym (judge-from (problemIn a) p) ∙ ap (ruling (problemIn a) p (wordsOf (problemIn a) p)) (sym r ∙ rival-end (problemIn a) p (B .term)) ∙ ruled-fit (problemIn a) p (wordsOf (problemIn a) p) full in
-      rw j (ap TermTo (B .ends ∙ ap (λ (x : Term Word). at + length (encodedTerm x)) t), B .bytes ∙ ap (λ (x : Term Word). put b at (encodedTerm x)) t)
+-- an unpermitted pair in its turn
+pub record Turn : Type 0 where
+  pub a : Archive
+  pub p : Pair
+  pub at : ℕ
+  pub from : ℕ
+  pub old : List ℕ
+  pub begun : TermBegun a p at from old
+  pub k : ℕ
+  pub number : ℕ
+  pub end : ℕ
+  pub out : List ℕ
+  pub built : Building a p at old k number end out
+  pub turn : k < 32 * a .parties
+  pub unpermitted : unpermittedAt a k ≡ true
+
+-- the words of the term so far, and whether the pair in turn has them
+abbrev pub wordsAt : Turn → List Word
+wordsAt T = plainTerm (T .built .term)
+
+abbrev pub hasAt : Turn → Word → Bool
+hasAt T = hasIn (T .a) (pairAt (T .k))
+
+module _ (T : Turn) where
+  abbrev S : Problem Pair Word
+  S = problemIn (T .a)
+
+  abbrev t : Term Word
+  t = T .built .term
+
+  is-pair : isPairAt (T .a .parties) (T .k) ≡ true
+  is-pair = and-left (isPairAt (T .a .parties) (T .k)) _ (T .unpermitted)
+
+  pub turn-pair : IsPair (T .a .parties) (pairAt (T .k))
+  turn-pair = pair-of _ _ _ is-pair
+
+  pub turn-stands : TermAt (T .out) (T .at) (wordsAt T) (drop (T .at + length (encodedTerm t)) (T .old))
+  turn-stands = build-term-at (T .begun) (T .built)
+
+  met : meetsIt S (pairAt (T .k)) t ≡ allOf (hasAt T) (wordsAt T)
+  met =
+      rw (problem-permitted (T .a) (pairAt (T .k)), and-right (isPairAt (T .a .parties) (T .k)) _ (T .unpermitted))
+      (owned-met (T .begun .shown .1) (T .p) (pairAt (T .k)) t (T .built .owned))
+
+  -- it misses a word of the term
+  pub turn-unmet : allOf (hasAt T) (wordsAt T) ≡ false
+      → Building (T .a) (T .p) (T .at) (T .old) (T .k + 1) (T .number) (T .end) (T .out)
+  turn-unmet f = build-unmet (T .begun) (T .built) (T .turn) is-pair (met ∙ f)
+
+  module _ (f : allOf (hasAt T) (wordsAt T) ≡ true) where
+    -- it lacks no word of p: the first rival
+    pub turn-rival : lackedIn (T .a) (T .p) (pairAt (T .k)) ≡ none
+        → OutcomeAs (T .a) (T .p) (T .at) (T .old) (T .out) (judge S (T .p)) (Rival (pairValue (pairAt (T .k))))
+    unfolding judgeFrom
+    turn-rival g =
+        let r = ahead-rivals (T .begun) (T .built) (T .turn) is-pair in
+        let j : judge S (T .p) ≡ rivalled (T .p) (pairAt (T .k)) =
+        sym (judge-from S (T .p))
+        ∙ ap (ruling S (T .p) (wordsOf S (T .p))) (sym r ∙ rival-here S (T .p) t (pairAt (T .k)) _ (met ∙ f) g)
+        ∙ ruled-rival S (T .p) (pairAt (T .k)) (wordsOf S (T .p)) (T .begun .worded) in
+        rw j refl
+
+    -- it lacks a word: the first one is added
+    module _ {w : Word} (g : lackedIn (T .a) (T .p) (pairAt (T .k)) ≡ some w) where
+      longer : addAll S (T .p) (t ++ (itemOf S (T .p) w ∷ [])) (pairsFrom (T .a .parties) (T .k + 1)) ≡ termOf S (T .p)
+      longer = sym (add-here S (T .p) t (pairAt (T .k)) _ (met ∙ f) g) ∙ ahead (T .begun) (T .built) (T .turn) is-pair
+
+      pub turn-more : {n : ℕ} {new : List ℕ} → length w ≡ n → new ≡ put (T .old) (T .at) (encodeTerm (wordsAt T ++ (w ∷ [])))
+          → Building (T .a) (T .p) (T .at) (T .old) (T .k + 1) (T .number + 1) (T .end + 1 + n) new
+      turn-more l e =
+          let i = itemOf S (T .p) w in
+          let r = ahead-rivals (T .begun) (T .built) (T .turn) is-pair in
+          record {
+            term = t ++ (i ∷ []);
+            owned = owned-more S (T .p) t w (find-in _ _ g) (T .built .owned);
+            rest = longer;
+            rivals = sym (rival-on S (T .p) t (pairAt (T .k)) _ (met ∙ f) g) ∙ r;
+            bytes = e ∙ ap (λ (x : List (List ℕ)). put (T .old) (T .at) (encodeTerm x)) (sym (plain-more t i));
+            words = omega (arith, T .built .words, length-append t (i ∷ []));
+            ends = omega (arith, T .built .ends, size-more t i, l);
+          }
+
+      pub turn-room : T .end + 1 + length w ≤ length (T .old)
+      unfolding termBytes
+      turn-room =
+          let i = itemOf S (T .p) w in
+          let s = size-grows S (T .p) (t ++ (i ∷ [])) (pairsFrom (T .a .parties) (T .k + 1)) in
+          let e = ap (λ (x : Term Word). length (encodedTerm x)) longer in
+          omega (arith, s, e, T .built .ends, size-more t i, T .begun .room)

@@ -6,7 +6,7 @@ use Prim.Native.Nat.{ℕ, _+_, _≤_}
 use native.Mathlib.Omega.{arith}
 use lib.ListN.{length}
 use Rattle.lists.specs.Lists.{flatMap}
-use Rattle.lists.specs.Order.{headOf, sumOf}
+use Rattle.lists.specs.Order.{firstElement, sumOf}
 use Rattle.lists.proofs.Cases.{clash}
 use Rattle.rebac.specs.Matter.{Matter, Pair}
 use Rattle.rebac.specs.Words.{Word}
@@ -15,22 +15,22 @@ use Rattle.rebac.specs.Mining.{begin, termOf}
 use Rattle.rebac.specs.NextWord.{pairWords, nextWord}
 use Rattle.rebac.proofs.NextWordLaws.{first-word}
 use Rattle.graph.specs.declared.Archive.{Archive}
-use Rattle.graph.specs.Archive.{Shows}
+use Rattle.graph.specs.promises.Archive.{Shows}
 use Rattle.fields.specs.Numbers.{u16Bytes}
 use Rattle.rule_bytes.specs.ListBytes.{encodeTerm}
-use Rattle.fields.specs.Writing.{put}
+use Rattle.fields.specs.promises.Writing.{put}
 use Rattle.rule_bytes.proofs.RoundTrip.{term-size, word-size}
 use Rattle.fields.proofs.PutLaws.{put-over}
-use Rattle.mining.specs.Building.{problemIn, firstBytes, termBytes, BuiltAs}
-use Rattle.mining.specs.declared.build.Built.{Built}
+use Rattle.mining.specs.promises.Building.{problemIn, firstBytes, termBytes, OutcomeAs}
+use Rattle.mining.specs.declared.build.Outcome.{Outcome}
 use Rattle.mining.proofs.ArchiveLaws.{problem-shown}
-use Rattle.mining.proofs.BuildLaws.{size-grows, size-least}
+use Rattle.mining.proofs.BuildLaws.{size-grows}
 
-head-nil : {A : Type 0} (l : List A) → headOf l ≡ none → l ≡ []
+head-nil : {A : Type 0} (l : List A) → firstElement l ≡ none → l ≡ []
 head-nil [] e = refl
 head-nil (x ∷ l) e = clash (cc e)
 
-head-cons : {A : Type 0} (l : List A) {x : A} → headOf l ≡ some x → (t : List A) × (l ≡ x ∷ t)
+head-cons : {A : Type 0} (l : List A) {x : A} → firstElement l ≡ some x → (t : List A) × (l ≡ x ∷ t)
 head-cons [] e = clash (cc e)
 head-cons (y ∷ l) e = (l, cc e)
 
@@ -43,27 +43,27 @@ one-size : (v : Word) → length (encodeTerm (v ∷ [])) ≡ 3 + length v
 unfolding sumOf
 one-size v = term-size (v ∷ []) ∙ omega (arith, word-size v)
 
-module _ (M : Matter) (a : Archive) (h : Shows M a) (p : Pair) where
+module _ {M : Matter} {a : Archive} (h : Shows M a) (p : Pair) where
   words-shown : wordsOf (problemIn a) p ≡ pairWords M p
   unfolding pairWords
-  words-shown = rw (problem-shown M a h) refl
+  words-shown = rw (problem-shown h) refl
 
   pub first-none : nextWord M p [] ≡ none → judge (problemIn a) p ≡ noWord p
   unfolding judge
   first-none e = rw (words-shown ∙ head-nil (pairWords M p) (sym (first-word M p) ∙ e)) refl
 
-  first-cons : (v : Word) → nextWord M p [] ≡ some v → (t : List Word) × (wordsOf (problemIn a) p ≡ v ∷ t)
-  first-cons v e = let k = head-cons (pairWords M p) (sym (first-word M p) ∙ e) in (k .0, words-shown ∙ k .1)
+  first-cons : {v : Word} → nextWord M p [] ≡ some v → (t : List Word) × (wordsOf (problemIn a) p ≡ v ∷ t)
+  first-cons e = let k = head-cons (pairWords M p) (sym (first-word M p) ∙ e) in (k .0, words-shown ∙ k .1)
 
-  pub first-full : (v : Word) → nextWord M p [] ≡ some v → length (wordsOf (problemIn a) p) ≡ 0 → ⊥
-  first-full v e z = omega (arith, ap length (first-cons v e .1), z)
+  pub first-full : {v : Word} → nextWord M p [] ≡ some v → length (wordsOf (problemIn a) p) ≡ 0 → ⊥
+  first-full e z = omega (arith, ap length (first-cons e .1), z)
 
-  pub first-bytes : (v : Word) → nextWord M p [] ≡ some v → firstBytes a p ≡ encodeTerm (v ∷ [])
+  pub first-bytes : {v : Word} → nextWord M p [] ≡ some v → firstBytes a p ≡ encodeTerm (v ∷ [])
   unfolding firstBytes
-  first-bytes v e = rw (first-cons v e .1) refl
+  first-bytes e = rw (first-cons e .1) refl
 
-  pub first-size : (v : Word) → nextWord M p [] ≡ some v → length (firstBytes a p) ≡ 3 + length v
-  first-size v e = ap length (first-bytes v e) ∙ one-size v
+  pub first-size : {v : Word} → nextWord M p [] ≡ some v → length (firstBytes a p) ≡ 3 + length v
+  first-size {v} e = ap length (first-bytes e) ∙ one-size v
 
 module _ (a : Archive) (p : Pair) where
   -- the first word is part of the term
@@ -71,12 +71,9 @@ module _ (a : Archive) (p : Pair) where
   unfolding firstBytes termBytes termOf
   first-part = size-grows (problemIn a) p (begin (problemIn a) p (wordsOf (problemIn a) p)) (problemIn a .pairs)
 
-  pub term-least : 2 ≤ length (termBytes a p)
-  unfolding termBytes
-  term-least = size-least (termOf (problemIn a) p)
-
   -- the whole term leaves nothing of its first word's bytes
-  pub built-over : (at : ℕ) (b new : List ℕ) (v : Verdict Pair) (r : Built) → at ≤ length b → BuiltAs a p at (put b at (firstBytes a p)) new v r → BuiltAs a p at b new v r
-  built-over at b new convertible r h k = (k .0, k .1 ∙ put-over b at (firstBytes a p) (termBytes a p) h first-part)
-  built-over at b new (noWord x) r h k = k
-  built-over at b new (rivalled x q) r h k = k
+  pub outcome-over : (at : ℕ) (b new : List ℕ) (v : Verdict Pair) (r : Outcome) → at ≤ length b
+      → OutcomeAs a p at (put b at (firstBytes a p)) new v r → OutcomeAs a p at b new v r
+  outcome-over at b new convertible r h k = (k .0, k .1 ∙ put-over b at (firstBytes a p) (termBytes a p) h first-part)
+  outcome-over at b new (noWord x) r h k = k
+  outcome-over at b new (rivalled x q) r h k = k

@@ -13,12 +13,12 @@ use Rattle.lists.specs.Order.{Ascending}
 use Rattle.lists.proofs.ListLaws.{filter-in, filter-out, map-in, map-out, up-in, up-out}
 use Rattle.lists.proofs.OrderLaws.{ascending-filter, ascending-map, ascending-equal, up-ascending}
 use Rattle.lists.proofs.Pointwise.{filter-none}
-use Rattle.rebac.specs.Matter.{Pair, pair, pairBefore, pairsOf}
+use Rattle.rebac.specs.Matter.{Pair, pairBefore, pairsOf}
 use Rattle.rebac.proofs.PairsLaws.{pairs-in, pairs-out, pairs-ascending, pair-one-way}
 use Rattle.rebac.proofs.LexOrder.{first-lower, first-same}
 use Rattle.graph.specs.Legal.{isPair}
 use Rattle.graph.proofs.LegalLaws.{pair-of, pair-is}
-use Rattle.mining.specs.Pairs.{pairAt, isPairAt, pairsFrom}
+use Rattle.mining.specs.promises.Pairs.{pairAt, isPairAt, pairsFrom}
 
 -- a greater number is a later pair
 later : (i j : ℕ) → ltb i j ≡ true → pairBefore (pairAt i) (pairAt j) ≡ true
@@ -31,7 +31,7 @@ later i j h =
     let m : i % 32 < j % 32 = omega (arith, l, e) in
     first-same (i / 32) (j / 32) (ltb (i % 32) (j % 32)) e (lt-ltb (i % 32) (j % 32) m))
 
-module _ (n : ℕ) (few : n ≤ 32) where
+module _ (n : ℕ) (bounded : n ≤ 32) where
   number-in : (p : Pair) → List·Memᴰ p (pairsOf n) → List·Memᴰ p (pairsFrom n 0)
   unfolding pairsFrom
   number-in p m =
@@ -39,11 +39,11 @@ module _ (n : ℕ) (few : n ≤ 32) where
       let u = i .first in
       let v = i .second in
       let k = 32 * p .first + p .second in
-      let d : k / 32 ≡ p .first = omega (arith, few, u, v) in
-      let r : k % 32 ≡ p .second = omega (arith, few, u, v) in
+      let d : k / 32 ≡ p .first = omega (arith, bounded, u, v) in
+      let r : k % 32 ≡ p .second = omega (arith, bounded, u, v) in
       let e : pairAt k ≡ p = rw (d, r) refl in
       let t : isPairAt n k ≡ true = rw (d, r) (pair-is n (p .first) (p .second) i) in
-      let w = up-in 0 1024 k (omega arith) (omega (arith, few, u, v)) in
+      let w = up-in 0 1024 k (omega arith) (omega (arith, bounded, u, v)) in
       rw (← e) (map-in pairAt (filterBy (isPairAt n) (upFrom 0 1024)) (filter-in (isPairAt n) (upFrom 0 1024) w t))
 
   number-out : (p : Pair) → List·Memᴰ p (pairsFrom n 0) → List·Memᴰ p (pairsOf n)

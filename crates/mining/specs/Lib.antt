@@ -1,3 +1,2 @@
-pub mod Pairs
-pub mod Building
-pub mod Taking
+pub mod Values
+pub mod promises

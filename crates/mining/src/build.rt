@@ -1,20 +1,20 @@
 // A pair's term, built in a lent slice.
 ghost use mathlib.Core.Path.{_≡_};
 ghost use mathlib.Core.Bool.{not, _&&_};
-ghost use Prim.Native.Nat.{_+_, _≤_};
+ghost use Prim.Native.Nat.{_≤_};
 ghost use lib.ListN.{length};
-ghost use Rattle.masks.specs.Mask.{testBit};
-ghost use Rattle.masks.specs.Table.{maskIn};
-ghost use Rattle.rebac.specs.Matter.{Matter, IsPair, pair};
-ghost use Rattle.rebac.specs.Verdict.{judge, wordsOf};
-ghost use Rattle.graph.specs.Archive.{Shows};
+ghost use Rattle.limits.specs.Limits.{mostParties};
+ghost use Rattle.masks.specs.promises.Mask.{testBit};
+ghost use Rattle.masks.specs.promises.Table.{maskIn};
+ghost use Rattle.rebac.specs.Matter.{pair};
+ghost use Rattle.rebac.specs.Verdict.{judge};
 ghost use Rattle.graph.specs.Legal.{isPair};
-ghost use Rattle.fields.specs.Writing.{put};
-ghost use Rattle.mining.specs.Building.{problemIn, firstBytes, termBytes, BuiltAs};
+ghost use Rattle.mining.specs.promises.Building.{problemIn, OutcomeAs, endOf, TermRoom, TermBegun};
 use crate::lacked::first_lacked;
 use crate::lacked::first_word;
 use crate::term::add_word;
 use graph::Archive;
+use limits::MOST_PARTIES;
 use masks::Row;
 
 pub struct Pair {
@@ -22,16 +22,27 @@ pub struct Pair {
     pub second: usize,
 }
 
-// What came of building: the pair has no word, has this rival, or has its term, which ends at the place.
-pub enum Built {
+// What came of a pair: it has no word, it has this rival, or it has its term, which ends at the place.
+pub enum Outcome {
     NoWord,
     Rival(Pair),
     Term(usize),
 }
 
+// Where the term ends; `at` where there is none.
+pub fn end_of(outcome: Outcome, at: usize) -> usize
+    ensures { λ r. ⌜ r ≡ endOf outcome at ⌝ }
+{
+    match outcome {
+        Outcome::NoWord => at,
+        Outcome::Rival(q) => at,
+        Outcome::Term(end) => end,
+    }
+}
+
 // Whether two numbers are a pair that the table doesn't permit.
 pub fn unpermitted(n: usize, permits: Row, u: usize, v: usize) -> bool
-    requires { ⌜ n ≤ 32 ⌝ }
+    requires { ⌜ n ≤ mostParties ⌝ }
     ensures { λ r. ⌜ r ≡ (isPair n u v && not (testBit (maskIn permits u) v)) ⌝ }
 {
     if graph::is_pair(n, u, v) {
@@ -48,16 +59,17 @@ fn extend_term(
     out: &mut [u8],
     at: usize,
     from: usize,
-) -> Built
-    requires { ⌜ IsPair (a .parties) (pair first second) × (((M : Matter) × Shows M a) × ((length (wordsOf (problemIn a) (pair first second)) ≡ 0 → ⊥) × ((from ≡ at + length (firstBytes a (pair first second))) × ((at + length (termBytes a (pair first second)) ≤ length (now out)) × (put (now out) at (firstBytes a (pair first second)) ≡ now out))))) ⌝ }
-    ensures { λ r. ⌜ BuiltAs a (pair first second) at (now (out .entry)) (now (out .exit)) (judge (problemIn a) (pair first second)) r ⌝ }
+) -> Outcome
+    requires { ⌜ TermBegun a (pair first second) at from (now out) ⌝ }
+    ensures { λ r. ⌜ OutcomeAs a (pair first second) at (now (out .entry)) (now (out .exit))
+        (judge (problemIn a) (pair first second)) r ⌝ }
 {
     let mut number: usize = 1;
     let mut end = from;
-    let count = 32 * a.parties;
+    let count = MOST_PARTIES * a.parties;
     'pairs: for k in 0..count {
-        let u: usize = k / 32;
-        let v: usize = k % 32;
+        let u: usize = k / MOST_PARTIES;
+        let v: usize = k % MOST_PARTIES;
         if !unpermitted(a.parties, a.permits, u, v) {
             continue 'pairs;
         }
@@ -74,7 +86,7 @@ fn extend_term(
         }
         let c = first_lacked(a, first, second, u, v);
         if !c.found {
-            return Built::Rival(Pair {
+            return Outcome::Rival(Pair {
                 first: u,
                 second: v,
             });
@@ -84,17 +96,18 @@ fn extend_term(
         end = end + 1 + w.len;
         number += 1;
     }
-    Built::Term(end)
+    Outcome::Term(end)
 }
 
 // The pair's term from place `at` on: its first word, then a word against each pair that still meets the term.
-pub fn build_term(a: Archive, first: usize, second: usize, out: &mut [u8], at: usize) -> Built
-    requires { ⌜ IsPair (a .parties) (pair first second) × (((M : Matter) × Shows M a) × (at + length (termBytes a (pair first second)) ≤ length (now out))) ⌝ }
-    ensures { λ r. ⌜ BuiltAs a (pair first second) at (now (out .entry)) (now (out .exit)) (judge (problemIn a) (pair first second)) r ⌝ }
+pub fn build_term(a: Archive, first: usize, second: usize, out: &mut [u8], at: usize) -> Outcome
+    requires { ⌜ TermRoom a (pair first second) at (length (now out)) ⌝ }
+    ensures { λ r. ⌜ OutcomeAs a (pair first second) at (now (out .entry)) (now (out .exit))
+        (judge (problemIn a) (pair first second)) r ⌝ }
 {
     let c = first_word(a, first, second);
     if !c.found {
-        return Built::NoWord;
+        return Outcome::NoWord;
     }
     let w = c.word;
     fields::put_u16(out, at, 0);

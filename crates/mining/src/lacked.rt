@@ -5,10 +5,12 @@ ghost use Rattle.rebac.specs.Existence.{problemOf};
 ghost use Rattle.rebac.specs.NextWord.{pairWords, nextWord};
 ghost use Rattle.rebac.specs.Mining.{lacks};
 ghost use Rattle.lists.specs.Lists.{firstBy};
-ghost use Rattle.graph.specs.Archive.{Shows};
-ghost use Rattle.search.specs.Word.{Short};
-ghost use Rattle.words.specs.Next.{NextAs};
+ghost use Rattle.graph.specs.promises.Archive.{Shows};
+ghost use Rattle.search.specs.promises.WordValues.{Short};
+ghost use Rattle.words.specs.promises.Next.{NextAs};
+ghost use Rattle.mining.specs.promises.Building.{TwoPairs};
 use graph::Archive;
+use limits::WORD_CAPACITY;
 use search::Word;
 use words::Next;
 
@@ -19,15 +21,16 @@ pub fn first_word(a: Archive, first: usize, second: usize) -> Next
 {
     let empty = Word {
         len: 0,
-        symbols: [0u8; 31],
+        symbols: [0u8; WORD_CAPACITY],
     };
     words::next_word(a.graph, a.parties, first, second, a.longest, empty)
 }
 
 // The words of the pair (first, second) in order, up to the first that (u, v) lacks.
 pub fn first_lacked(a: Archive, first: usize, second: usize, u: usize, v: usize) -> Next
-    requires { ⌜ IsPair (a .parties) (pair first second) × (IsPair (a .parties) (pair u v) × ((M : Matter) × Shows M a)) ⌝ }
-    ensures { λ r. ⌜ Short (r .word) × ((M : Matter) → Shows M a → NextAs (firstBy (lacks (problemOf M) (pair first second) (pair u v)) (pairWords M (pair first second))) r) ⌝ }
+    requires { ⌜ TwoPairs a (pair first second) (pair u v) ⌝ }
+    ensures { λ r. ⌜ Short (r .word) × ((M : Matter) → Shows M a
+        → NextAs (firstBy (lacks (problemOf M) (pair first second) (pair u v)) (pairWords M (pair first second))) r) ⌝ }
 {
     let mut c = first_word(a, first, second);
     while c.found {

@@ -1,52 +1,45 @@
-// One pair taken in turn: what the verdict and mining do with each.
+// One pair in its turn: what the verdict and mining do with each.
 ghost use mathlib.Core.Path.{_≡_};
 ghost use mathlib.Core.Bool.{_&&_, _||_};
 ghost use mathlib.Core.List.{List};
 ghost use Prim.Native.Nat.{ℕ, _*_, _≤_, _<_};
 ghost use lib.ListN.{length};
-ghost use Rattle.masks.specs.Mask.{testBit};
-ghost use Rattle.masks.specs.Table.{maskIn};
-ghost use Rattle.rebac.specs.Matter.{Matter, pair};
+ghost use Rattle.limits.specs.Limits.{mostParties};
+ghost use Rattle.masks.specs.promises.Mask.{testBit};
+ghost use Rattle.masks.specs.promises.Table.{maskIn};
 ghost use Rattle.rebac.specs.Words.{Word as Symbols};
 ghost use Rattle.rebac.specs.Rules.{RuleList};
 ghost use Rattle.rebac.specs.Verdict.{judge};
-ghost use Rattle.graph.specs.Archive.{Shows};
 ghost use Rattle.graph.specs.Legal.{isPair};
-ghost use Rattle.rule_bytes.specs.Reading.{TermAt, SomeTerm};
-ghost use Rattle.rules.specs.Permit.{meetsTerm};
-ghost use Rattle.mining.specs.Pairs.{pairAt};
-ghost use Rattle.mining.specs.Building.{problemIn};
-ghost use Rattle.mining.specs.Taking.{Marks, dueBy, Ready, JudgedAs};
-use crate::build::Built;
-use crate::build::Pair;
+ghost use Rattle.rule_bytes.specs.promises.Reading.{TermAt, SomeTerm};
+ghost use Rattle.rules.specs.promises.Meets.{meetsTerm};
+ghost use Rattle.mining.specs.promises.Pairs.{pairAt};
+ghost use Rattle.mining.specs.promises.Building.{problemIn};
+ghost use Rattle.mining.specs.promises.Taking.{PairMarks, dueBy, DueQuery, TurnAs};
+use crate::build::Outcome;
 use crate::build::build_term;
 use graph::Archive;
+use limits::MOST_PARTIES;
 use masks::Row;
 
-// Fit: the pair has its term.
-pub enum Judgment {
-    Fit,
-    Wordless,
-    Rivalled(Pair),
-}
-
-// The judgment, the end of what is written, and the pairs that the list permits then.
-pub struct Taken {
-    pub judgment: Judgment,
-    pub end: usize,
+// What came of a pair in its turn: its outcome, and the pairs that the list permits then.
+pub struct PairTurn {
+    pub outcome: Outcome,
     pub marks: Row,
 }
 
 // The marks with those of the pairs that meet the term at a place.
 fn mark_term(a: Archive, marks: Row, list: &[u8], at: usize) -> Row
-    requires { ⌜ (a .parties ≤ 32) × SomeTerm (now list) at ⌝ }
-    ensures { λ r. ⌜ ((t : List (List ℕ)) (s : List ℕ) → TermAt (now (list .entry)) at t s → (u v : ℕ) → testBit (maskIn r u) v ≡ (testBit (maskIn marks u) v || (isPair (a .parties) u v && meetsTerm (a .parties) (a .graph) u v t))) ⌝ }
+    requires { ⌜ (a .parties ≤ mostParties) × SomeTerm (now list) at ⌝ }
+    ensures { λ r. ⌜ ((t : List (List ℕ)) (s : List ℕ) → TermAt (now (list .entry)) at t s → (u v : ℕ)
+        → testBit (maskIn r u) v
+        ≡ (testBit (maskIn marks u) v || (isPair (a .parties) u v && meetsTerm (a .parties) (a .graph) u v t))) ⌝ }
 {
     let mut row = marks;
-    let count = 32 * a.parties;
+    let count = MOST_PARTIES * a.parties;
     for k in 0..count {
-        let u: usize = k / 32;
-        let v: usize = k % 32;
+        let u: usize = k / MOST_PARTIES;
+        let v: usize = k % MOST_PARTIES;
         if !graph::is_pair(a.parties, u, v) {
             continue;
         }
@@ -64,11 +57,11 @@ fn mark_term(a: Archive, marks: Row, list: &[u8], at: usize) -> Row
 
 // Whether the pair of number k is permitted, and no term so far permits it.
 pub fn is_due(n: usize, permits: Row, marks: Row, k: usize) -> bool
-    requires { ⌜ (k < 32 * n) × (n ≤ 32) ⌝ }
+    requires { ⌜ (k < mostParties * n) × (n ≤ mostParties) ⌝ }
     ensures { λ r. ⌜ r ≡ dueBy n permits marks k ⌝ }
 {
-    let u: usize = k / 32;
-    let v: usize = k % 32;
+    let u: usize = k / MOST_PARTIES;
+    let v: usize = k % MOST_PARTIES;
     if !graph::is_pair(n, u, v) {
         return false;
     }
@@ -79,26 +72,17 @@ pub fn is_due(n: usize, permits: Row, marks: Row, k: usize) -> bool
 }
 
 // The due pair of number k: its term from place `at` on, or what is in the way.
-pub fn take_due(a: Archive, marks: Row, k: usize, out: &mut [u8], at: usize) -> Taken
-    requires { ⌜ (k < 1024) × (((M : Matter) × Shows M a) × Ready a marks k at (length (now out))) ⌝ }
-    ensures { λ r. ⌜ ((l : RuleList Symbols) → Marks a l marks → JudgedAs a l k at (now (out .entry)) (now (out .exit)) (judge (problemIn a) (pairAt k)) r) ⌝ }
+pub fn take_due(a: Archive, marks: Row, k: usize, out: &mut [u8], at: usize) -> PairTurn
+    requires { ⌜ DueQuery a marks k at (length (now out)) ⌝ }
+    ensures { λ r. ⌜ ((l : RuleList Symbols) → PairMarks a l marks
+        → TurnAs a l k at (now (out .entry)) (now (out .exit)) (judge (problemIn a) (pairAt k)) r) ⌝ }
 {
-    let b = build_term(a, k / 32, k % 32, out, at);
-    match b {
-        Built::NoWord => Taken {
-            judgment: Judgment::Wordless,
-            end: at,
-            marks,
-        },
-        Built::Rival(q) => Taken {
-            judgment: Judgment::Rivalled(q),
-            end: at,
-            marks,
-        },
-        Built::Term(end) => Taken {
-            judgment: Judgment::Fit,
-            end,
+    let outcome = build_term(a, k / MOST_PARTIES, k % MOST_PARTIES, out, at);
+    match outcome {
+        Outcome::Term(end) => PairTurn {
+            outcome,
             marks: mark_term(a, marks, out, at),
         },
+        _ => PairTurn { outcome, marks },
     }
 }

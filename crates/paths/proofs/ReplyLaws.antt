@@ -2,17 +2,17 @@
 use mathlib.Core.Path.{_≡_, refl, ap}
 use Rattle.lists.proofs.Cases.{clash}
 use Rattle.house_layout.proofs.RefusalNumbers.{refusal-said}
-use Rattle.paths.specs.Calls.{saidReply}
-use Rattle.paths.specs.declared.call.Reply.{Reply}
-use Rattle.paths.specs.declared.call.Reply.the-variants.{Refused, Nothing, Wrote}
+use Rattle.paths.specs.Calls.{saidWord}
+use Rattle.paths.specs.declared.call.WordReply.{WordReply}
+use Rattle.paths.specs.declared.call.WordReply.the-variants.{Refused, Nothing, Wrote}
 
-pub reply-said : (r s : Reply) → saidReply r ≡ saidReply s → r ≡ s
-reply-said (Refused x) (Refused y) e = ap Refused (refusal-said e)
-reply-said (Refused x) Nothing e = clash (cc e)
-reply-said (Refused x) (Wrote k) e = clash (cc e)
-reply-said Nothing (Refused y) e = clash (cc e)
-reply-said Nothing Nothing e = refl
-reply-said Nothing (Wrote k) e = clash (cc e)
-reply-said (Wrote j) (Refused y) e = clash (cc e)
-reply-said (Wrote j) Nothing e = clash (cc e)
-reply-said (Wrote j) (Wrote k) e = ap Wrote (cc e)
+pub word-said : (r s : WordReply) → saidWord r ≡ saidWord s → r ≡ s
+word-said (Refused x) (Refused y) e = ap Refused (refusal-said e)
+word-said (Refused x) Nothing e = clash (cc e)
+word-said (Refused x) (Wrote k) e = clash (cc e)
+word-said Nothing (Refused y) e = clash (cc e)
+word-said Nothing Nothing e = refl
+word-said Nothing (Wrote k) e = clash (cc e)
+word-said (Wrote j) (Refused y) e = clash (cc e)
+word-said (Wrote j) Nothing e = clash (cc e)
+word-said (Wrote j) (Wrote k) e = ap Wrote (cc e)

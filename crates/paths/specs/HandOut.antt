@@ -9,17 +9,17 @@ use Rattle.rebac.specs.Matter.{Matter, Pair}
 use Rattle.rebac.specs.Words.{before}
 use Rattle.rebac.specs.Existence.{HasWord}
 use Rattle.search.specs.declared.word.Word.{Word}
-use Rattle.paths.specs.Calls.{replyOf, outputOf, nextCall}
-use Rattle.paths.specs.declared.call.Reply.{Reply}
-use Rattle.paths.specs.declared.call.Reply.the-variants.{Refused, Nothing, Wrote}
+use Rattle.paths.specs.Calls.{wordReply, wordOutput, nextCall}
+use Rattle.paths.specs.declared.call.WordReply.{WordReply}
+use Rattle.paths.specs.declared.call.WordReply.the-variants.{Refused, Nothing, Wrote}
 
 -- the words handed out, in order, and the reply that ended the calls
 pub record HandedOut : Type 0 where
   pub words : List (List ℕ)
-  pub last : Reply
+  pub last : WordReply
 
 -- a reply, and the output as the call left it: the word written is handed out and given to the next call; any other reply ends the calls
-abbrev pub onward : Reply → List ℕ → (List ℕ → HandedOut) → HandedOut
+abbrev pub onward : WordReply → List ℕ → (List ℕ → HandedOut) → HandedOut
 onward (Refused x) output next = record { words = []; last = Refused x }
 onward Nothing output next = record { words = []; last = Nothing }
 onward (Wrote k) output next = record { words = take k output ∷ next (take k output) .words; last = next (take k output) .last }
@@ -30,9 +30,9 @@ unfoldable pub handOut : (List ℕ → Word) → List ℕ → ℕ → ℕ → �
 handOut value f a b zero v output = record { words = []; last = Wrote 0 }
 handOut value f a b (suc k) v output =
     onward
-    (replyOf (nextCall f a b (value v) (length output)))
-    (outputOf (nextCall f a b (value v) (length output)) output)
-    (λ w. handOut value f a b k w (outputOf (nextCall f a b (value v) (length output)) output))
+    (wordReply (nextCall f a b (value v) (length output)))
+    (wordOutput (nextCall f a b (value v) (length output)) output)
+    (λ w. handOut value f a b k w (wordOutput (nextCall f a b (value v) (length output)) output))
 
 -- demand 2, "Next-word hands out each word of a pair once, in order": exactly the words that the pair has, and then that there is none
 pub record HandsOut (M : Matter) (p : Pair) (h : HandedOut) : Type 0 where

@@ -1,7 +1,7 @@
 // The path and next-word calls.
 mod call;
 
-pub use call::Reply;
-pub use call::legal_word;
-pub use call::next as next_call;
-pub use call::path;
+pub use call::WordReply;
+pub use call::legal_given_word;
+pub use call::next_call;
+pub use call::path_call;

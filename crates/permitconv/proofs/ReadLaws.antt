@@ -11,14 +11,14 @@ use mir.Val.{toZ, ofZ}
 use Rattle.lists.proofs.Cases.{by-test, clash}
 use Rattle.libc.specs.Io.{Moved}
 
-pub record Taken (most : ℕ) (z : ℤ) : Type 0 where
+pub record ReadCount (most : ℕ) (z : ℤ) : Type 0 where
   pub counts : T (nonNeg (toZ w64 (ofZ w64 z)))
   pub some : 1 ≤ natAbs (toZ w64 (ofZ w64 z))
   pub within : natAbs (toZ w64 (ofZ w64 z)) ≤ most
 
-pub taken : (z : ℤ) (most : ℕ) → Moved most z → ltZ (toZ w64 (ofZ w64 z)) (pos 0) ≡ false → (ofZ w64 z ≡ 0 → ⊥) → Taken most z
-taken (pos k) most m n p =
+pub read-count : (z : ℤ) (most : ℕ) → Moved most z → ltZ (toZ w64 (ofZ w64 z)) (pos 0) ≡ false → (ofZ w64 z ≡ 0 → ⊥) → ReadCount most z
+read-count (pos k) most m n p =
     by-test (ltb k (2 ^ 63))
     (λ e. record { counts = rw e tt; some = rw e (omega arith); within = rw e m })
     (λ e. clash (rw e at n))
-taken (negsuc k) most m n p = clash (rw m at n)
+read-count (negsuc k) most m n p = clash (rw m at n)

@@ -1,4 +1,5 @@
--- Demand 3 for a list of any words: a term with a word that no pair has permits nobody, so the terms without such words permit the same pairs, and their words are the matter's.
+-- Demand 3 for a list of any words: a term with a word that no pair has permits nobody, so the terms
+-- without such words permit the same pairs, and their words are the matter's.
 use mathlib.Core.Path.{_≡_, _∙_}
 use mathlib.Core.Logic.{_↔_}
 use mathlib.Core.Bool.{Bool, true, _&&_}
@@ -47,7 +48,9 @@ module _ (M : Matter) where
 
   kept-permits : (r : List (List Word)) (p : Pair) → List·Memᴰ p (pairsOf (M .parties)) → permitsPair M (kept r) p ≡ permitsPair M r p
   unfolding permitsPair hasAll
-  kept-permits r p m = any-filter (hasAll M p) (allOf inUse) r (λ t h. all-of inUse t (λ w n. has-in-use p m w (all-in (has (enlarged M) p) t h n)))
+  kept-permits r p m =
+      any-filter (hasAll M p) (allOf inUse) r
+      (λ t h. all-of inUse t (λ w n. has-in-use p m w (all-in (has (enlarged M) p) t h n)))
 
   kept-converts : (r : List (List Word)) → ConvertsAny M r → Converts M (kept r)
   kept-converts r c =

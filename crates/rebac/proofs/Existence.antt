@@ -1,4 +1,5 @@
--- Theorem 3.10 both ways. From a list: the term that permits p is made of p's words, so a rival would be permitted too. From the verdict: the mined list.
+-- Theorem 3.10 both ways. From a list: the term that permits p is made of p's words, so a
+-- rival would be permitted too. From the verdict: the mined list.
 use mathlib.Core.Path.{_≡_, refl, sym, _∙_}
 use mathlib.Core.Logic.{_↔_}
 use mathlib.Core.Bool.{true, false}
@@ -13,8 +14,9 @@ use Rattle.lists.proofs.ListLaws.{all-in, all-of, any-in, any-out}
 use Rattle.rebac.specs.Rules.{Problem, Item, Term, RuleList, meetsItem, meets, permits}
 use Rattle.rebac.specs.Verdict.{convertible, wordsOf, covers, rival, judge, verdict}
 use Rattle.rebac.specs.Mining.{termOf, mine}
-use Rattle.rebac.specs.Existence.{IsTerm, Suitable}
-use Rattle.rebac.proofs.MiningLaws.{words-in, words-out, term-shuts, term-owned, term-full, mine-all, permits-last, mined-has, mined-all}
+use Rattle.rebac.proofs.Suitable.{IsTerm, Suitable}
+use Rattle.rebac.proofs.MiningLaws.{words-in, words-out, term-shuts, term-owned, term-full}
+use Rattle.rebac.proofs.MiningLaws.{mine-all, permits-last, mined-has, mined-all}
 use Rattle.rebac.proofs.VerdictLaws.{judge-in, judge-word, judge-not-covered, verdict-in, verdict-out}
 
 pub first-item : {A : Type 0} (t : List A) → 1 ≤ length t → (i : A) × List·Memᴰ i t
@@ -23,7 +25,8 @@ first-item (i ∷ t) h = (i, List·Memᴰ·head refl)
 
 module _ {P W : Type 0} (S : Problem P W) where
   -- where p meets a term, each of its words is a word of p
-  item-word : (p : P) (t : Term W) → IsTerm S t → meets S p t ≡ true → (i : Item W) → List·Memᴰ i t → List·Memᴰ (i .word) (wordsOf S p) × (i .count ≤ S .score p (i .word))
+  item-word : (p : P) (t : Term W) → IsTerm S t → meets S p t ≡ true → (i : Item W) → List·Memᴰ i t
+      → List·Memᴰ (i .word) (wordsOf S p) × (i .count ≤ S .score p (i .word))
   unfolding meets meetsItem
   item-word p t g h i m =
       let a : i .count ≤ S .score p (i .word) = leb-true _ _ (all-in _ t h m) in
@@ -40,12 +43,15 @@ module _ {P W : Type 0} (S : Problem P W) where
       le-leb (i .count) (S .score q (i .word)) (omega (arith, r .1, d)))
 
   -- a pair that meets a term which shuts out every pair that is not permitted has a word and no rival
-  meets-judge : (p : P) (t : Term W) → IsTerm S t → meets S p t ≡ true → ((q : P) → List·Memᴰ q (S .pairs) → S .permitted q ≡ false → meets S q t ≡ false) → judge S p ≡ convertible
+  meets-judge : (p : P) (t : Term W) → IsTerm S t → meets S p t ≡ true
+      → ((q : P) → List·Memᴰ q (S .pairs) → S .permitted q ≡ false → meets S q t ≡ false) → judge S p ≡ convertible
   unfolding rival
   meets-judge p t g h shut =
       let i = first-item t (g .full) in
       judge-in S p (item-word p t g h (i .0) (i .1) .0)
-      (λ q m. by-test (S .permitted q) (λ e. rw e) (λ e. by-test (covers S p q) (λ k. both (covers-meets p q t g k h) (shut q m e)) (λ k. rw (e, k))))
+      (λ q m. by-test (S .permitted q)
+      (λ e. rw e)
+      (λ e. by-test (covers S p q) (λ k. both (covers-meets p q t g k h) (shut q m e)) (λ k. rw (e, k))))
 
   -- (a) from a list to the verdict
   pub suitable-converts : (r : RuleList W) → Suitable S r → verdict S ≡ convertible
@@ -65,7 +71,8 @@ module _ {P W : Type 0} (S : Problem P W) where
         listed = λ i m. let r = term-owned S p i m in rw (r .2) (words-out S p (r .1) .0);
       }
 
-  pub term-permits-none-other : (p : P) → judge S p ≡ convertible → (q : P) → List·Memᴰ q (S .pairs) → S .permitted q ≡ false → meets S q (termOf S p) ≡ false
+  pub term-permits-none-other : (p : P) → judge S p ≡ convertible
+      → (q : P) → List·Memᴰ q (S .pairs) → S .permitted q ≡ false → meets S q (termOf S p) ≡ false
   term-permits-none-other p e q m u = term-shuts S p q m u (judge-not-covered S p e q m u)
 
   pub mined-only : verdict S ≡ convertible → (q : P) → List·Memᴰ q (S .pairs) → S .permitted q ≡ false → permits S (mine S) q ≡ false

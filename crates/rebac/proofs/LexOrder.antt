@@ -1,4 +1,4 @@
--- The order of lists of numbers and word order: neither has an element before itself, both carry on, by induction on the lists.
+-- The order of lists of numbers and word order are irreflexive and transitive: by induction on the lists.
 use mathlib.Core.Path.{_≡_, refl, sym, _∙_}
 use mathlib.Core.Logic.{_⊎_, inl, inr, ⊎-elim}
 use mathlib.Core.Bool.{Bool, true, false, _&&_, _||_}
@@ -36,11 +36,18 @@ first-same a b c h k = rw (eq-eqb a b h, k) (or-true (ltb a b) refl)
 same-false : (a : ℕ) (c : Bool) → c ≡ false → (ltb a a || (eqb a a && c)) ≡ false
 same-false a c k = rw (le-ltb a a (omega arith), eq-eqb a a refl, k)
 
-two-steps : (a b c : ℕ) (x y z : Bool) → (x ≡ true → y ≡ true → z ≡ true) → (ltb a b || (eqb a b && x)) ≡ true → (ltb b c || (eqb b c && y)) ≡ true → (ltb a c || (eqb a c && z)) ≡ true
+two-steps : (a b c : ℕ) (x y z : Bool) → (x ≡ true → y ≡ true → z ≡ true) → (ltb a b || (eqb a b && x)) ≡ true
+    → (ltb b c || (eqb b c && y)) ≡ true → (ltb a c || (eqb a c && z)) ≡ true
 two-steps a b c x y z f h k =
     ⊎-elim
-    (λ (p : a < b). ⊎-elim (λ (q : b < c). first-lower a c z (omega arith)) (λ (q : (b ≡ c) × (y ≡ true)). first-lower a c z (omega (arith, q .0))) (by-first b c y k))
-    (λ (p : (a ≡ b) × (x ≡ true)). ⊎-elim (λ (q : b < c). first-lower a c z (omega (arith, p .0))) (λ (q : (b ≡ c) × (y ≡ true)). first-same a c z (p .0 ∙ q .0) (f (p .1) (q .1))) (by-first b c y k))
+    (λ (p : a < b). ⊎-elim
+    (λ (q : b < c). first-lower a c z (omega arith))
+    (λ (q : (b ≡ c) × (y ≡ true)). first-lower a c z (omega (arith, q .0)))
+    (by-first b c y k))
+    (λ (p : (a ≡ b) × (x ≡ true)). ⊎-elim
+    (λ (q : b < c). first-lower a c z (omega (arith, p .0)))
+    (λ (q : (b ≡ c) × (y ≡ true)). first-same a c z (p .0 ∙ q .0) (f (p .1) (q .1)))
+    (by-first b c y k))
     (by-first a b x h)
 
 pub lex-irreflexive : (w : List ℕ) → lexLess w w ≡ false
@@ -74,11 +81,13 @@ cons-ascending c (w ∷ l) h = (
   cons-ascending c l (h .1),
 )
 
-pub flat-ascending : (f : ℕ → List (List ℕ)) (al : List ℕ) → Ascending ltb al → ((s : ℕ) → Ascending lexLess (f s)) → Ascending lexLess (flatMap (λ s. map (λ w. s ∷ w) (f s)) al)
+pub flat-ascending : (f : ℕ → List (List ℕ)) (al : List ℕ) → Ascending ltb al
+    → ((s : ℕ) → Ascending lexLess (f s)) → Ascending lexLess (flatMap (λ s. map (λ w. s ∷ w) (f s)) al)
 unfolding flatMap lexLess
 flat-ascending f [] ha hf = tt
 flat-ascending f (s ∷ al) ha hf =
-    ascending-append lexLess (map (λ w. s ∷ w) (f s)) (flatMap (λ s. map (λ w. s ∷ w) (f s)) al) (cons-ascending s (f s) (hf s)) (flat-ascending f al (ha .1) hf)
+    ascending-append lexLess (map (λ w. s ∷ w) (f s)) (flatMap (λ s. map (λ w. s ∷ w) (f s)) al)
+    (cons-ascending s (f s) (hf s)) (flat-ascending f al (ha .1) hf)
     (λ x y m n.
     let a = map-out (λ w. s ∷ w) (f s) m in
     let b = flat-out (λ s. map (λ w. s ∷ w) (f s)) al n in

@@ -1,4 +1,7 @@
 pub mod LexOrder
+pub mod Suitable
+pub mod NextWords
+pub mod FormStatements
 pub mod Reach
 pub mod Triples
 pub mod MiningLaws
@@ -9,6 +12,7 @@ pub mod WordsLaws
 pub mod SymbolsLaws
 pub mod PairsLaws
 pub mod Conversion
+pub mod PlainLaws
 pub mod AnyList
 pub mod NextWordLaws
 pub mod FormLaws

@@ -3,7 +3,7 @@ use mathlib.Core.Path.{_≡_, refl}
 use mathlib.Core.Bool.{true, false}
 use mathlib.Core.Option.{Option, none, some}
 use Rattle.lists.proofs.Cases.{both}
-use Rattle.rebac.specs.Options.{isSome}
+use Rattle.rebac.specs.promises.Options.{isSome}
 
 pub some-of : {A : Type 0} (o : Option A) → isSome o ≡ true → (x : A) × (o ≡ some x)
 some-of none e = both {b = false} e refl

@@ -13,7 +13,8 @@ use Rattle.lists.proofs.Cases.{by-test, by-mem, clash, and-left, and-right}
 use Rattle.lists.proofs.ListLaws.{all-in, flat-in, flat-out, map-in, map-out, member-in, member-out, range-in, range-out}
 use Rattle.lists.proofs.OrderLaws.{ascending-append, range-ascending}
 use Rattle.rebac.specs.Matter.{Matter}
-use Rattle.rebac.specs.Symbols.{TableRow, plain, absent, inverse, absentInverse, Held, kinds, kindHolds, apart, inLanguage, holds, alphabet, capOf}
+use Rattle.rebac.specs.TriplePaths.{TableRow, plain, absent, inverse, absentInverse, Held}
+use Rattle.rebac.specs.Symbols.{kinds, kindHolds, apart, inLanguage, holds, alphabet, capOf}
 
 split-label : (l k : ℕ) → k < 4 → (4 * l + k) / 4 ≡ l
 split-label l k h = omega arith
@@ -35,7 +36,10 @@ kinds-below : (g : ℕ) {k : ℕ} → List·Memᴰ k (kinds g) → k < 4
 kinds-below g {k} m = ltb-true k 4 (all-in (λ k. ltb k 4) (kinds g) (all-below g) m)
 
 two-ascending : (x y : ℕ) → x < y → Ascending ltb (x ∷ y ∷ [])
-two-ascending x y h = (λ z n. by-mem n (λ e. lt-ltb x z (omega arith)) (λ o. absurd (List·Memᴰ·not-nil o)), (λ z n. absurd (List·Memᴰ·not-nil n), tt))
+two-ascending x y h = (
+  λ z n. by-mem n (λ e. lt-ltb x z (omega arith)) (λ o. absurd (List·Memᴰ·not-nil o)),
+  (λ z n. absurd (List·Memᴰ·not-nil n), tt),
+)
 
 kinds-ascending : (g : ℕ) → Ascending ltb (kinds g)
 unfolding kinds upFrom range
@@ -54,13 +58,13 @@ apart-out M u v e =
     )
 
 -- Definition 4.3: between two different parties a symbol of the language holds as its kind says
-pub holds-table :
-    (M : Matter) (u v label kind : ℕ) → u < M .parties → v < M .parties → (u ≡ v → ⊥) → label < M .labels → List·Memᴰ kind (kinds (M .language))
-    → holds M u v (4 * label + kind) ≡ kindHolds M u v label kind
+pub holds-table : (M : Matter) (u v label kind : ℕ) → u < M .parties → v < M .parties → (u ≡ v → ⊥) → label < M .labels
+    → List·Memᴰ kind (kinds (M .language)) → holds M u v (4 * label + kind) ≡ kindHolds M u v label kind
 unfolding holds apart inLanguage
 holds-table M u v label kind a b c d m =
     let k : kind < 4 = kinds-below (M .language) m in
-    rw (split-label label kind k, split-kind label kind k, lt-ltb u (M .parties) a, lt-ltb v (M .parties) b, ne-eqb u v c, lt-ltb label (M .labels) d, member-in kind (kinds (M .language)) m)
+    let used : member kind (kinds (M .language)) ≡ true = member-in kind (kinds (M .language)) m in
+    rw (split-label label kind k, split-kind label kind k, lt-ltb u _ a, lt-ltb v _ b, ne-eqb u v c, lt-ltb label _ d, used)
 
 -- Tables 1 and 2 agree: a language uses the kinds whose rows are ticked for it
 plain-used : (g : ℕ) → List·Memᴰ 0 (kinds g)
@@ -111,14 +115,14 @@ absent-inverse-ticked (suc (suc zero)) e = clash (sym e)
 absent-inverse-ticked (suc (suc (suc g))) e = omega arith
 
 -- a symbol that holds is in the row of its kind
-row-of :
-    (M : Matter) (u v s label kind : ℕ) → label < M .labels → s ≡ 4 * label + kind → kind < 4 → member kind (kinds (M .language)) ≡ true
-    → kindHolds M u v label kind ≡ true → TableRow M u v s
+row-of : (M : Matter) (u v s label kind : ℕ) → label < M .labels → s ≡ 4 * label + kind → kind < 4
+    → member kind (kinds (M .language)) ≡ true → kindHolds M u v label kind ≡ true → TableRow M u v s
 unfolding kindHolds
 row-of M u v s label zero l q k m e = plain label l q e
 row-of M u v s label (suc zero) l q k m e = absent label l q (not-true (M .edge u v label) e) (absent-ticked (M .language) m)
 row-of M u v s label (suc (suc zero)) l q k m e = inverse label l q e (inverse-ticked (M .language) m)
-row-of M u v s label (suc (suc (suc zero))) l q k m e = absentInverse label l q (not-true (M .edge v u label) e) (absent-inverse-ticked (M .language) m)
+row-of M u v s label (suc (suc (suc zero))) l q k m e =
+    absentInverse label l q (not-true (M .edge v u label) e) (absent-inverse-ticked (M .language) m)
 row-of M u v s label (suc (suc (suc (suc kind)))) l q k m e = absurd (omega arith)
 
 pub holds-out : (M : Matter) (u v s : ℕ) → holds M u v s ≡ true → Held M u v s
@@ -127,12 +131,13 @@ holds-out M u v s e =
     let a = apart-out M u v (and-left (apart M u v) _ e) in
     let b = and-right (apart M u v) _ e in
     let l : inLanguage M s ≡ true = and-left (inLanguage M s) _ b in
+    let below : s / 4 < M .labels = ltb-true (s / 4) (M .labels) (and-left (ltb (s / 4) (M .labels)) _ l) in
+    let used : member (s % 4) (kinds (M .language)) ≡ true = and-right (ltb (s / 4) (M .labels)) _ l in
     record {
       first = a .0;
       second = a .1;
       different = a .2;
-      row = row-of M u v s (s / 4) (s % 4) (ltb-true (s / 4) (M .labels) (and-left (ltb (s / 4) (M .labels)) _ l)) (join-symbol s) (omega arith)
-          (and-right (ltb (s / 4) (M .labels)) _ l) (and-right (inLanguage M s) _ b);
+      row = row-of M u v s (s / 4) (s % 4) below (join-symbol s) (omega arith) used (and-right (inLanguage M s) _ b);
     }
 
 -- and a symbol in a row holds
@@ -140,7 +145,8 @@ pub holds-in : (M : Matter) (u v s : ℕ) → Held M u v s → holds M u v s ≡
 unfolding kindHolds
 holds-in M u v s r = go (r .row)
   where
-    kept : (label kind : ℕ) → label < M .labels → s ≡ 4 * label + kind → List·Memᴰ kind (kinds (M .language)) → kindHolds M u v label kind ≡ true → holds M u v s ≡ true
+    kept : (label kind : ℕ) → label < M .labels → s ≡ 4 * label + kind
+        → List·Memᴰ kind (kinds (M .language)) → kindHolds M u v label kind ≡ true → holds M u v s ≡ true
     kept label kind l q m e = rw q (holds-table M u v label kind (r .first) (r .second) (r .different) l m ∙ e)
 
     go : TableRow M u v s → holds M u v s ≡ true
@@ -159,7 +165,9 @@ unfolding inLanguage alphabet
 language-listed M s e =
     let a : s / 4 < M .labels = ltb-true (s / 4) (M .labels) (and-left (ltb (s / 4) (M .labels)) _ e) in
     let b : List·Memᴰ (s % 4) (kinds (M .language)) = member-out (s % 4) (kinds (M .language)) (and-right (ltb (s / 4) (M .labels)) _ e) in
-    let m : List·Memᴰ (4 * (s / 4) + s % 4) (alphabet (M .language) (M .labels)) = flat-in (λ l. map (λ k. 4 * l + k) (kinds (M .language))) (range (M .labels)) (range-in (M .labels) (s / 4) a) (map-in (λ k. 4 * (s / 4) + k) (kinds (M .language)) b) in
+    let m : List·Memᴰ (4 * (s / 4) + s % 4) (alphabet (M .language) (M .labels)) =
+    flat-in (λ l. map (λ k. 4 * l + k) (kinds (M .language))) (range (M .labels))
+    (range-in (M .labels) (s / 4) a) (map-in (λ k. 4 * (s / 4) + k) (kinds (M .language)) b) in
     rw (← join-symbol s) at m
 
 pub record InAlphabet (language labels s : ℕ) : Type 0 where
@@ -175,13 +183,22 @@ unfolding alphabet
 alphabet-out language labels m =
     let r = flat-out (λ l. map (λ k. 4 * l + k) (kinds language)) (range labels) m in
     let t = map-out (λ k. 4 * r .0 + k) (kinds language) (r .2) in
-    record { label = r .0; kind = t .0; below = range-out labels (r .1); inKinds = t .1; small = kinds-below language (t .1); joined = t .2 }
+    record {
+      label = r .0;
+      kind = t .0;
+      below = range-out labels (r .1);
+      inKinds = t .1;
+      small = kinds-below language (t .1);
+      joined = t .2;
+    }
 
 pub listed-language : (M : Matter) (s : ℕ) → List·Memᴰ s (alphabet (M .language) (M .labels)) → inLanguage M s ≡ true
 unfolding inLanguage
 listed-language M s m =
     let r = alphabet-out (M .language) (M .labels) m in
-    rw (r .joined, split-label (r .label) (r .kind) (r .small), split-kind (r .label) (r .kind) (r .small), lt-ltb (r .label) (M .labels) (r .below)) (member-in (r .kind) (kinds (M .language)) (r .inKinds))
+    let label = split-label (r .label) (r .kind) (r .small) in
+    let kind = split-kind (r .label) (r .kind) (r .small) in
+    rw (r .joined, label, kind, lt-ltb (r .label) (M .labels) (r .below)) (member-in (r .kind) (kinds (M .language)) (r .inKinds))
 
 pub alphabet-below : (language labels : ℕ) {s : ℕ} → List·Memᴰ s (alphabet language labels) → s < 4 * labels
 alphabet-below language labels m = let r = alphabet-out language labels m in omega (arith, r .below, r .small, r .joined)
@@ -193,14 +210,20 @@ holds-listed M u v s e = language-listed M s (and-left (inLanguage M s) _ (and-r
 
 map-ascending : (f : ℕ → ℕ) → ((a b : ℕ) → a < b → f a < f b) → (l : List ℕ) → Ascending ltb l → Ascending ltb (map f l)
 map-ascending f h [] a = tt
-map-ascending f h (x ∷ l) a =
-    (λ y n. let r = map-out f l n in rw (r .2) (lt-ltb (f x) (f (r .0)) (h x (r .0) (ltb-true x (r .0) (a .0 (r .0) (r .1))))), map-ascending f h l (a .1))
+map-ascending f h (x ∷ l) a = (
+  λ y n.
+      let r = map-out f l n in
+      rw (r .2) (lt-ltb (f x) (f (r .0)) (h x (r .0) (ltb-true x (r .0) (a .0 (r .0) (r .1))))),
+  map-ascending f h l (a .1),
+)
 
-flat-ascending : (ks : List ℕ) → Ascending ltb ks → ((k : ℕ) → List·Memᴰ k ks → k < 4) → (ls : List ℕ) → Ascending ltb ls → Ascending ltb (flatMap (λ l. map (λ k. 4 * l + k) ks) ls)
+flat-ascending : (ks : List ℕ) → Ascending ltb ks → ((k : ℕ) → List·Memᴰ k ks → k < 4)
+    → (ls : List ℕ) → Ascending ltb ls → Ascending ltb (flatMap (λ l. map (λ k. 4 * l + k) ks) ls)
 unfolding flatMap
 flat-ascending ks ak b [] al = tt
 flat-ascending ks ak b (l ∷ ls) al =
-    ascending-append ltb (map (λ k. 4 * l + k) ks) (flatMap (λ l. map (λ k. 4 * l + k) ks) ls) (map-ascending (λ k. 4 * l + k) (λ x y h. omega arith) ks ak) (flat-ascending ks ak b ls (al .1))
+    ascending-append ltb (map (λ k. 4 * l + k) ks) (flatMap (λ l. map (λ k. 4 * l + k) ks) ls)
+    (map-ascending (λ k. 4 * l + k) (λ x y h. omega arith) ks ak) (flat-ascending ks ak b ls (al .1))
     (λ x y m n.
     let r = map-out (λ k. 4 * l + k) ks m in
     let t = flat-out (λ l. map (λ k. 4 * l + k) ks) ls n in
@@ -210,7 +233,8 @@ flat-ascending ks ak b (l ∷ ls) al =
 
 pub alphabet-ascending : (language labels : ℕ) → Ascending ltb (alphabet language labels)
 unfolding alphabet
-alphabet-ascending language labels = flat-ascending (kinds language) (kinds-ascending language) (λ k m. kinds-below language m) (range labels) (range-ascending labels)
+alphabet-ascending language labels =
+    flat-ascending (kinds language) (kinds-ascending language) (λ k m. kinds-below language m) (range labels) (range-ascending labels)
 
 -- an item may ask for one path in every language
 pub cap-positive : (language : ℕ) → 1 ≤ capOf language

@@ -1,8 +1,9 @@
--- 000's linked sequences of triples and 01's walks in which no party occurs twice are the same walks, where no edge joins a party to itself.
+-- 000's linked sequences of triples and 01's walks in which no party occurs twice
+-- are the same walks, where no edge joins a party to itself.
 use mathlib.Core.Path.{_≡_, refl, sym, ap, _∙_}
 use mathlib.Core.Logic.{_↔_}
 use mathlib.Core.Bool.{true, false}
-use mathlib.Core.List.{List, [], _∷_, List·Memᴰ, List·Memᴰ·head, List·Memᴰ·tail, List·Memᴰ·not-nil}
+use mathlib.Core.List.{List, [], _∷_, map, List·Memᴰ, List·Memᴰ·head, List·Memᴰ·tail, List·Memᴰ·not-nil}
 use Prim.Native.Nat.{ℕ, suc, _≤_, _<_}
 use native.Mathlib.Omega.{arith}
 use lib.ListN.{length}
@@ -10,7 +11,19 @@ use Rattle.lists.specs.Order.{Distinct}
 use Rattle.lists.proofs.Cases.{by-mem, both}
 use Rattle.lists.proofs.ListLaws.{map-in, map-out}
 use Rattle.rebac.specs.Matter.{Pair}
-use Rattle.rebac.specs.Paths.{Graph, Triple, Linked, NoReturn, TriplePath, pathLabel, finishes, triples, Walk, Path, HasPath}
+use Rattle.rebac.specs.Paths.{Graph, Walk, Path, HasPath}
+use Rattle.rebac.specs.TriplePaths.{Triple, Linked, NoReturn, TriplePath, pathLabel}
+
+module _ {S : Type 0} where
+  -- the vertices after the first
+  abbrev pub finishes : List (Triple S) → List ℕ
+  finishes ts = map (λ t. t .finish) ts
+
+  -- the triples of a walk that starts at a and passes the parties of the list
+  abbrev pub triples : ℕ → List ℕ → List S → List (Triple S)
+  triples a (c ∷ l) (s ∷ w) = record { start = a; finish = c; symbol = s } ∷ triples c l w
+  triples a [] w = []
+  triples a (c ∷ l) [] = []
 
 module _ {S : Type 0} (g : Graph S) where
   -- a walk has as many parties after the first as symbols
@@ -63,14 +76,19 @@ module _ {S : Type 0} (g : Graph S) where
   linked-of a b (c ∷ l) (s ∷ w) k = (refl, linked-of c b l w (k .2))
 
   -- what a walk says of each of its triples
-  each-edge : (a b : ℕ) (l : List ℕ) (w : List S) → Walk g a l w b → (t : Triple S) → List·Memᴰ t (triples a l w) → (g .edge (t .start) (t .finish) (t .symbol) ≡ true) × (t .finish < g .parties)
+  each-edge : (a b : ℕ) (l : List ℕ) (w : List S) → Walk g a l w b → (t : Triple S) → List·Memᴰ t (triples a l w)
+      → (g .edge (t .start) (t .finish) (t .symbol) ≡ true) × (t .finish < g .parties)
   each-edge a b [] w k t m = absurd (List·Memᴰ·not-nil m)
   each-edge a b (c ∷ l) [] k t m = absurd k
   each-edge a b (c ∷ l) (s ∷ w) k t m = by-mem m (λ e. rw e (k .1, k .0)) (λ n. each-edge c b l w (k .2) t n)
 
-  walk-of : (a b : ℕ) (ts : List (Triple S)) → Linked a ts b → ((t : Triple S) → List·Memᴰ t ts → (g .edge (t .start) (t .finish) (t .symbol) ≡ true) × (t .finish < g .parties)) → Walk g a (finishes ts) (pathLabel ts) b
+  walk-of : (a b : ℕ) (ts : List (Triple S)) → Linked a ts b
+      → ((t : Triple S) → List·Memᴰ t ts → (g .edge (t .start) (t .finish) (t .symbol) ≡ true) × (t .finish < g .parties))
+      → Walk g a (finishes ts) (pathLabel ts) b
   walk-of a b [] k f = k
-  walk-of a b (t ∷ ts) k f = let h = f t (List·Memᴰ·head refl) in (h .1, rw (← k .0) (h .0), walk-of (t .finish) b ts (k .1) (λ x m. f x (List·Memᴰ·tail m)))
+  walk-of a b (t ∷ ts) k f =
+      let h = f t (List·Memᴰ·head refl) in
+      (h .1, rw (← k .0) (h .0), walk-of (t .finish) b ts (k .1) (λ x m. f x (List·Memᴰ·tail m)))
 
   -- no party twice: no later triple ends at an earlier start
   no-return-of : (a b : ℕ) (l : List ℕ) (w : List S) → Walk g a l w b → Distinct (a ∷ l) → NoReturn (triples a l w)
@@ -83,7 +101,8 @@ module _ {S : Type 0} (g : Graph S) where
   )
 
   -- and the converse: a first triple that ends at its own start is no edge
-  distinct-of : ((u : ℕ) (s : S) → g .edge u u s ≡ false) → (a b : ℕ) (ts : List (Triple S)) → Linked a ts b → NoReturn ts → ((t : Triple S) → List·Memᴰ t ts → g .edge (t .start) (t .finish) (t .symbol) ≡ true) → Distinct (a ∷ finishes ts)
+  distinct-of : ((u : ℕ) (s : S) → g .edge u u s ≡ false) → (a b : ℕ) (ts : List (Triple S)) → Linked a ts b → NoReturn ts
+      → ((t : Triple S) → List·Memᴰ t ts → g .edge (t .start) (t .finish) (t .symbol) ≡ true) → Distinct (a ∷ finishes ts)
   distinct-of loop a b [] k r f = (λ m. List·Memᴰ·not-nil m, tt)
   distinct-of loop a b (t ∷ ts) k r f = (
     λ m. by-mem m
@@ -103,7 +122,8 @@ module _ {S : Type 0} (g : Graph S) where
         inside = λ t m. e t m .1;
       }
 
-  pub triples-path : ((u : ℕ) (s : S) → g .edge u u s ≡ false) → (p : Pair) (ts : List (Triple S)) → TriplePath g p ts → Path g p (pathLabel ts) (finishes ts)
+  pub triples-path : ((u : ℕ) (s : S) → g .edge u u s ≡ false) → (p : Pair) (ts : List (Triple S))
+      → TriplePath g p ts → Path g p (pathLabel ts) (finishes ts)
   triples-path loop p ts r =
       record {
         some = linked-some (p .first) (p .second) ts (r .different) (r .linked);
@@ -112,7 +132,8 @@ module _ {S : Type 0} (g : Graph S) where
       }
 
   -- Definitions 3.4 and 3.5 against 01's sentence: the same words
-  pub same-paths : ((u : ℕ) (s : S) → g .edge u u s ≡ false) → (p : Pair) (w : List S) → HasPath g p w ↔ ((ts : List (Triple S)) × TriplePath g p ts × (pathLabel ts ≡ w))
+  pub same-paths : ((u : ℕ) (s : S) → g .edge u u s ≡ false)
+      → (p : Pair) (w : List S) → HasPath g p w ↔ ((ts : List (Triple S)) × TriplePath g p ts × (pathLabel ts ≡ w))
   same-paths loop p w = (
     λ x. (triples (p .first) (x .0) w, path-triples p w (x .0) (x .1), parts-of (p .first) (p .second) (x .0) w (x .1 .walk) .0),
     λ x. (finishes (x .0), rw (x .2) at (triples-path loop p (x .0) (x .1))),

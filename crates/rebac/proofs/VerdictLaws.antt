@@ -9,7 +9,8 @@ use Rattle.lists.specs.Lists.{firstBy}
 use Rattle.lists.proofs.Cases.{by-test, by-found, clash, both, and-false, and-left, and-right}
 use Rattle.lists.proofs.ListLaws.{all-in, find-none, find-none-of, find-some, First}
 use Rattle.rebac.specs.Rules.{Problem}
-use Rattle.rebac.specs.Verdict.{Verdict, convertible, noWord, rivalled, wordsOf, covers, rival, ruling, judge, isConvertible, spoils, verdict}
+use Rattle.rebac.specs.Verdict.{Verdict, convertible, noWord, rivalled, wordsOf, covers, rival}
+use Rattle.rebac.specs.Verdict.{ruling, judge, isConvertible, spoils, verdict}
 use Rattle.rebac.proofs.MiningLaws.{words-out}
 
 module _ {P W : Type 0} (S : Problem P W) where
@@ -27,7 +28,8 @@ module _ {P W : Type 0} (S : Problem P W) where
   ruling-word p (w ∷ ws) o e = (w, List·Memᴰ·head refl)
 
   -- a pair is no hindrance exactly where it has a word and no rival
-  pub judge-in : (p : P) {w : W} → List·Memᴰ w (wordsOf S p) → ((q : P) → List·Memᴰ q (S .pairs) → rival S p q ≡ false) → judge S p ≡ convertible
+  pub judge-in : (p : P) {w : W} → List·Memᴰ w (wordsOf S p)
+      → ((q : P) → List·Memᴰ q (S .pairs) → rival S p q ≡ false) → judge S p ≡ convertible
   unfolding judge
   judge-in p m f = ruling-good p m (find-none-of (rival S p) (S .pairs) f)
 
@@ -39,7 +41,8 @@ module _ {P W : Type 0} (S : Problem P W) where
   unfolding judge
   judge-no-rival p e q m = find-none (rival S p) (S .pairs) (ruling-none p (wordsOf S p) (firstBy (rival S p) (S .pairs)) e) m
 
-  pub judge-not-covered : (p : P) → judge S p ≡ convertible → (q : P) → List·Memᴰ q (S .pairs) → S .permitted q ≡ false → covers S p q ≡ false
+  pub judge-not-covered : (p : P) → judge S p ≡ convertible
+      → (q : P) → List·Memᴰ q (S .pairs) → S .permitted q ≡ false → covers S p q ≡ false
   unfolding rival
   judge-not-covered p e q m u = rw u at (judge-no-rival p e q m)
 

@@ -1,4 +1,5 @@
--- The verdict may be reached while mining: a pair that an earlier term permits is no hindrance, and a rival shows while its pair's term is built.
+-- The verdict may be reached while mining: a pair that an earlier term permits is no
+-- hindrance, and a rival shows while its pair's term is built.
 use mathlib.Core.Path.{_≡_, refl, sym, ap, _∙_}
 use mathlib.Core.Logic.{_↔_}
 use mathlib.Core.Bool.{true, false, not, _&&_}
@@ -9,9 +10,10 @@ use Rattle.lists.specs.Lists.{anyOf, firstBy}
 use Rattle.lists.proofs.Cases.{by-test, by-found, clash, both, and-false, and-both, and-left}
 use Rattle.lists.proofs.ListLaws.{all-in, all-of, find-none-of, find-in}
 use Rattle.rebac.specs.Rules.{Problem, Term, RuleList, meetsItem, meets, permits}
-use Rattle.rebac.specs.Verdict.{Verdict, convertible, noWord, rivalled, wordsOf, covers, rival, ruling, judge, spoils, judgeFirst, verdict}
-use Rattle.rebac.specs.Mining.{own, lacks, begin, termOf}
-use Rattle.rebac.specs.WhileMining.{rivalFrom, judgeFrom, passing, verdictFrom}
+use Rattle.rebac.specs.Verdict.{Verdict, convertible, noWord, rivalled, wordsOf, covers, rival}
+use Rattle.rebac.specs.Verdict.{ruling, judge, spoils, judgeFirst, verdict}
+use Rattle.rebac.specs.Mining.{itemOf, lacks, begin, termOf}
+use Rattle.rebac.specs.promises.WhileMining.{rivalFrom, judgeFrom, passing, verdictFrom}
 use Rattle.rebac.proofs.MiningLaws.{Owned, owned-more, begin-owned, covers-of, permits-last}
 use Rattle.rebac.proofs.Existence.{earlier-term}
 
@@ -19,7 +21,11 @@ module _ {P W : Type 0} (S : Problem P W) where
   -- q has all words of p exactly where the search for the first that it lacks finds none
   pub covers-none : (p q : P) → (covers S p q ≡ true) ↔ (firstBy (lacks S p q) (wordsOf S p) ≡ none)
   unfolding covers lacks
-  covers-none p q = (λ c. find-none-of _ (wordsOf S p) (λ w m. le-ltb (S .score q w) (S .score p w) (leb-true (S .score p w) (S .score q w) (all-in _ (wordsOf S p) c m))), covers-of S p q)
+  covers-none p q = (
+    λ c. find-none-of _ (wordsOf S p)
+        (λ w m. le-ltb (S .score q w) (S .score p w) (leb-true (S .score p w) (S .score q w) (all-in _ (wordsOf S p) c m))),
+    covers-of S p q,
+  )
 
   -- a rival meets every term made of its pair's words, so it is met while the term is built
   pub rival-meets : (p q : P) (t : Term W) → Owned S p t → covers S p q ≡ true → meets S q t ≡ true
@@ -38,7 +44,8 @@ module _ {P W : Type 0} (S : Problem P W) where
   unfolding rival
   not-covering p q e = by-test (covers S p q) (λ c. clash (cc (sym (covers-none p q .0 c) ∙ e))) (λ c. and-false (not (S .permitted q)) c)
 
-  met-and-covering : (p q : P) (t : Term W) → (not (S .permitted q) && meets S q t) ≡ true → firstBy (lacks S p q) (wordsOf S p) ≡ none → rival S p q ≡ true
+  met-and-covering : (p q : P) (t : Term W) → (not (S .permitted q) && meets S q t) ≡ true
+      → firstBy (lacks S p q) (wordsOf S p) ≡ none → rival S p q ≡ true
   unfolding rival
   met-and-covering p q t e f = and-both (and-left (not (S .permitted q)) (meets S q t) e) (covers-of S p q f)
 
@@ -49,12 +56,16 @@ module _ {P W : Type 0} (S : Problem P W) where
       by-test (not (S .permitted q) && meets S q t)
       (λ e. by-found (firstBy (lacks S p q) (wordsOf S p))
       (λ f. rw (e, f, met-and-covering p q t e f, rivalFrom, firstBy))
-      (λ w f. rw (e, f, not-covering p q f, rivalFrom, firstBy) (rival-from p (t ++ (own S p w ∷ [])) qs (owned-more S p t w (find-in _ _ f) o))))
+      (λ w f.
+      let longer : Owned S p (t ++ (itemOf S p w ∷ [])) = owned-more S p t w (find-in _ _ f) o in
+      rw (e, f, not-covering p q f, rivalFrom, firstBy) (rival-from p (t ++ (itemOf S p w ∷ [])) qs longer)))
       (λ e. rw (e, not-met p q t o e, rivalFrom, firstBy) (rival-from p t qs o))
 
   pub judge-from : (p : P) → judgeFrom S p ≡ judge S p
   unfolding judgeFrom judge
-  judge-from p = ap (ruling S p (wordsOf S p)) (rival-from p (begin S p (wordsOf S p)) (S .pairs) (begin-owned S p (wordsOf S p) (λ w m. m)))
+  judge-from p =
+      ap (ruling S p (wordsOf S p))
+      (rival-from p (begin S p (wordsOf S p)) (S .pairs) (begin-owned S p (wordsOf S p) (λ w m. m)))
 
   -- every pair that the list permits has a word and no rival
   abbrev Sound : RuleList W → Type 0
@@ -68,8 +79,9 @@ module _ {P W : Type 0} (S : Problem P W) where
   unfolding spoils
   passes r p f e = by-test (S .permitted p) (λ h. rw (f p (not-false _ (rw h at e))) (and-false (S .permitted p) refl)) (λ h. rw h)
 
-  -- p's own judgment decides, or the pairs after it do
-  go : (v : Verdict P) (p : P) (ps : List P) (rest : Verdict P) → judge S p ≡ v → S .permitted p ≡ true → (v ≡ convertible → rest ≡ judgeFirst S (firstBy (spoils S) ps)) → passing S v rest ≡ judgeFirst S (firstBy (spoils S) (p ∷ ps))
+  -- p's own verdict decides, or the pairs after it do
+  go : (v : Verdict P) (p : P) (ps : List P) (rest : Verdict P) → judge S p ≡ v → S .permitted p ≡ true
+      → (v ≡ convertible → rest ≡ judgeFirst S (firstBy (spoils S) ps)) → passing S v rest ≡ judgeFirst S (firstBy (spoils S) (p ∷ ps))
   unfolding firstBy spoils
   go convertible p ps rest e h f = rw (h, e, firstBy) (f refl)
   go (noWord x) p ps rest e h f = rw (h, e, firstBy) (sym e)
@@ -80,7 +92,11 @@ module _ {P W : Type 0} (S : Problem P W) where
   from-list r [] f = refl
   from-list r (p ∷ ps) f =
       by-test (S .permitted p && not (permits S r p))
-      (λ e. rw (e, judge-from p, verdictFrom) (go (judge S p) p ps (verdictFrom S (r ++ (termOf S p ∷ [])) ps) refl (and-left (S .permitted p) (not (permits S r p)) e) (λ j. from-list (r ++ (termOf S p ∷ [])) ps (sound-more r p f j))))
+      (λ e.
+      let longer : RuleList W = r ++ (termOf S p ∷ []) in
+      let permit : S .permitted p ≡ true = and-left (S .permitted p) (not (permits S r p)) e in
+      rw (e, judge-from p, verdictFrom)
+      (go (judge S p) p ps (verdictFrom S longer ps) refl permit (λ j. from-list longer ps (sound-more r p f j))))
       (λ e. rw (e, verdictFrom, passes r p f e, firstBy) (from-list r ps f))
 
   pub verdict-while-mining : verdictFrom S [] (S .pairs) ≡ verdict S

@@ -1,14 +1,14 @@
 -- The listed words are the words of 1 to d symbols of the alphabet, each once, in word order: by induction on the length.
 use mathlib.Core.Path.{_≡_, refl, sym, ap, _∙_}
-use mathlib.Core.Logic.{_⊎_, ⊎-elim}
-use mathlib.Core.List.{List, [], _∷_, map, List·Memᴰ, List·Memᴰ·head, List·Memᴰ·tail, List·Memᴰ·not-nil, Memᴰ·append-left, Memᴰ·append-right, List·Memᴰ·append-cases}
+use mathlib.Core.List.{List, [], _∷_, map, List·Memᴰ, List·Memᴰ·head, List·Memᴰ·tail, List·Memᴰ·not-nil}
+use mathlib.Core.List.{Memᴰ·append-left, Memᴰ·append-right}
 use Prim.Native.Nat.{ℕ, zero, suc}
 use native.Mathlib.Omega.{arith}
 use native.Mathlib.Decide.{ℕ-discrete}
 use lib.Dec.{ltb}
 use lib.ListN.{length}
 use Rattle.lists.specs.Order.{Ascending, Distinct}
-use Rattle.lists.proofs.Cases.{by-mem}
+use Rattle.lists.proofs.Cases.{by-mem, by-append}
 use Rattle.lists.proofs.ListLaws.{flat-in, flat-out, map-in, map-out}
 use Rattle.lists.proofs.OrderLaws.{ascending-append, ascending-by, ascending-distinct}
 use Rattle.rebac.specs.Words.{Word, lexLess, before, wordsOfLength, wordsUpTo, Over, IsWord}
@@ -36,16 +36,17 @@ module _ (al : List ℕ) where
     where
       go : Dec (length w ≡ suc k) → (IsWord al k w → List·Memᴰ w (wordsUpTo al k)) → List·Memᴰ w (wordsUpTo al (suc k))
       go (yes e) ih = Memᴰ·append-right (wordsUpTo al k) (rw (← e) (length-in w (r .over)))
-      go (no n) ih = Memᴰ·append-left (wordsOfLength al (suc k)) (ih (record { over = r .over; some = r .some; short = omega (arith, n, r .short) }))
+      go (no n) ih =
+          let shorter : IsWord al k w = record { over = r .over; some = r .some; short = omega (arith, n, r .short) } in
+          Memᴰ·append-left (wordsOfLength al (suc k)) (ih shorter)
 
   pub listed-words : (d : ℕ) (w : Word) → List·Memᴰ w (wordsUpTo al d) → IsWord al d w
   unfolding wordsUpTo
   listed-words zero w m = absurd (List·Memᴰ·not-nil m)
   listed-words (suc k) w m =
-      ⊎-elim
-      (λ (n : List·Memᴰ w (wordsUpTo al k)). let r = listed-words k w n in record { over = r .over; some = r .some; short = omega (arith, r .short) })
-      (λ (n : List·Memᴰ w (wordsOfLength al (suc k))). let r = length-out (suc k) n in record { over = r .0; some = omega (arith, r .1); short = omega (arith, r .1) })
-      (List·Memᴰ·append-cases (wordsUpTo al k) m)
+      by-append (wordsUpTo al k) m
+      (λ n. let r = listed-words k w n in record { over = r .over; some = r .some; short = omega (arith, r .short) })
+      (λ n. let r = length-out (suc k) n in record { over = r .0; some = omega (arith, r .1); short = omega (arith, r .1) })
 
   module _ (up : Ascending ltb al) where
     length-ascending : (k : ℕ) → Ascending lexLess (wordsOfLength al k)
@@ -57,9 +58,11 @@ module _ (al : List ℕ) where
     unfolding wordsUpTo before
     words-ascending zero = tt
     words-ascending (suc k) =
+        let size : (w : Word) → List·Memᴰ w (wordsOfLength al (suc k)) → length w ≡ suc k = λ w m. length-out (suc k) m .1 in
         ascending-append before (wordsUpTo al k) (wordsOfLength al (suc k)) (words-ascending k)
-        (ascending-by lexLess before (wordsOfLength al (suc k)) (λ x y m n e. first-same (length x) (length y) (lexLess x y) (length-out (suc k) m .1 ∙ sym (length-out (suc k) n .1)) e) (length-ascending (suc k)))
-        (λ x y m n. first-lower (length x) (length y) (lexLess x y) (omega (arith, listed-words k x m .short, length-out (suc k) n .1)))
+        (ascending-by lexLess before (wordsOfLength al (suc k))
+        (λ x y m n e. first-same (length x) (length y) (lexLess x y) (size x m ∙ sym (size y n)) e) (length-ascending (suc k)))
+        (λ x y m n. first-lower (length x) (length y) (lexLess x y) (omega (arith, listed-words k x m .short, size y n)))
 
     pub words-distinct : (d : ℕ) → Distinct (wordsUpTo al d)
     words-distinct d = ascending-distinct before before-irreflexive (wordsUpTo al d) (words-ascending d)

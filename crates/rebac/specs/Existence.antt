@@ -9,20 +9,9 @@ use Rattle.rebac.specs.Matter.{Matter, Pair, pairsOf, permitted}
 use Rattle.rebac.specs.Words.{Word, wordsUpTo, IsWord}
 use Rattle.rebac.specs.Paths.{Graph, HasPath, has, pathCount}
 use Rattle.rebac.specs.Symbols.{alphabet, enlarged, capOf}
-use Rattle.rebac.specs.Rules.{Problem, Item, Term, RuleList, permits}
+use Rattle.rebac.specs.Rules.{Problem, Term, RuleList}
 use Rattle.rebac.specs.Verdict.{Verdict, verdict}
 use Rattle.rebac.specs.Mining.{mine}
-
--- 01: "A term is one or more words"; each item asks for one path or more of a word in use
-pub record IsTerm {P W : Type 0} (S : Problem P W) (t : Term W) : Type 0 where
-  pub full : 1 ≤ length t
-  pub counts : (i : Item W) → List·Memᴰ i t → 1 ≤ i .count
-  pub listed : (i : Item W) → List·Memᴰ i t → List·Memᴰ (i .word) (S .words)
-
--- Definition 3.8: the list is a suitable RuleSet, it permits exactly the permitted pairs
-pub record Suitable {P W : Type 0} (S : Problem P W) (r : RuleList W) : Type 0 where
-  pub terms : (t : Term W) → List·Memᴰ t r → IsTerm S t
-  pub exact : (p : P) → List·Memᴰ p (S .pairs) → permits S r p ≡ S .permitted p
 
 -- the words of a matter, in word order
 unfoldable pub matterWords : Matter → List Word
@@ -35,6 +24,7 @@ problemOver g cap words permit = record { pairs = pairsOf (g .parties); permitte
 unfoldable pub problemOf : Matter → Problem Pair Word
 problemOf M = problemOver (enlarged M) (capOf (M .language)) (matterWords M) (permitted M)
 
+-- the score of a pair at a word. In languages 0 to 3: 1 where the pair has the word, else 0 (proofs/Conversion, `score-one`)
 abbrev pub score : Matter → Pair → Word → ℕ
 score M p w = pathCount (enlarged M) (capOf (M .language)) p w
 
@@ -62,7 +52,8 @@ hasAll M p t = allOf (has (enlarged M) p) t
 unfoldable pub permitsPair : Matter → List (List Word) → Pair → Bool
 permitsPair M r p = anyOf (hasAll M p) r
 
--- 01: "Demand 3 is about every such list with words of at most D symbols, whatever its numbers of terms and words, even where no list bytes could hold it."
+-- 01: "Demand 3 is about every such list with words of at most D symbols, whatever its numbers of terms and words, even where
+-- no list bytes could hold it."
 -- A word may be empty, or have symbols that are not the language's; no pair has one that is or does.
 pub record ConvertsAny (M : Matter) (r : List (List Word)) : Type 0 where
   pub full : (t : List Word) → List·Memᴰ t r → 1 ≤ length t
@@ -80,10 +71,3 @@ plainTerm t = map (λ i. i .word) t
 
 abbrev pub plainList : RuleList Word → List (List Word)
 plainList r = map plainTerm r
-
--- and words as items that ask for one path each
-abbrev pub one : Word → Item Word
-one w = record { word = w; count = 1 }
-
-abbrev pub ones : List (List Word) → RuleList Word
-ones r = map (λ t. map one t) r

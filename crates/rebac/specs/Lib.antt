@@ -2,12 +2,11 @@ pub mod Matter
 pub mod Words
 pub mod Paths
 pub mod Symbols
+pub mod TriplePaths
 pub mod Rules
 pub mod Verdict
 pub mod Mining
-pub mod WhileMining
 pub mod Existence
 pub mod Options
 pub mod NextWord
-pub mod Forms
-pub mod Marked
+pub mod promises

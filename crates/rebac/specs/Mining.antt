@@ -9,16 +9,16 @@ use Rattle.rebac.specs.Verdict.{wordsOf}
 
 module _ {P W : Type 0} (S : Problem P W) where
   -- a word with the pair's own score
-  abbrev pub own : P → W → Item W
-  own p w = record { word = w; count = S .score p w }
+  abbrev pub itemOf : P → W → Item W
+  itemOf p w = record { word = w; count = S .score p w }
 
-  -- q lacks the word of p: it scores lower
+  -- q lacks the word of p: it scores lower. In languages 0 to 3, for a word that p has: not (has q w) (`lacks-plain`)
   unfoldable pub lacks : P → P → W → Bool
   lacks p q w = ltb (S .score q w) (S .score p w)
 
   abbrev pub addWord : P → Term W → Option W → Term W
   addWord p t none = t
-  addWord p t (some w) = t ++ (own p w ∷ [])
+  addWord p t (some w) = t ++ (itemOf p w ∷ [])
 
   -- 01: "each unpermitted pair in order: if it meets the term so far, the pair's first word that it lacks is added at the end"
   unfoldable pub addAgainst : P → Term W → P → Term W
@@ -31,7 +31,7 @@ module _ {P W : Type 0} (S : Problem P W) where
   -- 01: "A term begins with the pair's first word."
   abbrev pub begin : P → List W → Term W
   begin p [] = []
-  begin p (w ∷ ws) = own p w ∷ []
+  begin p (w ∷ ws) = itemOf p w ∷ []
 
   unfoldable pub termOf : P → Term W
   termOf p = addAll p (begin p (wordsOf S p)) (S .pairs)

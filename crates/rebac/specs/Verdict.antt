@@ -16,7 +16,8 @@ module _ {P W : Type 0} (S : Problem P W) where
   unfoldable pub wordsOf : P → List W
   wordsOf p = filterBy (λ w. leb 1 (S .score p w)) (S .words)
 
-  -- q has all words of p: it scores at least as high at each
+  -- q has all words of p: it scores at least as high at each.
+  -- In languages 0 to 3, where words are not counted: allOf (has q) (wordsOf p) (proofs/PlainLaws, `covers-plain`)
   unfoldable pub covers : P → P → Bool
   covers p q = allOf (λ w. leb (S .score p w) (S .score q w)) (wordsOf p)
 

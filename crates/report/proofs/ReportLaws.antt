@@ -20,13 +20,13 @@ use Rattle.house_file.specs.Check.{checkOf}
 use Rattle.house_layout.specs.declared.reply.Check.the-variants as check
 use Rattle.house_layout.specs.declared.reply.Refusal.{Refusal}
 use Rattle.house_file.proofs.WellFormedLaws.{framing}
-use Rattle.graph.specs.Archive.{matterOf}
-use Rattle.rule_bytes.specs.Reading.{IsList}
+use Rattle.graph.specs.FileMatter.{matterOf}
+use Rattle.rule_bytes.specs.promises.Reading.{IsList}
 use Rattle.rule_text.specs.Text.{listText}
-use Rattle.fields.specs.Writing.{put, Wrote}
+use Rattle.fields.specs.promises.Writing.{put, Wrote}
 use Rattle.rules.proofs.MatterLists.{mined-is-list}
 use Rattle.mining.specs.declared.build.Pair.{Pair}
-use Rattle.conversion.specs.Calls.{listOf, bytesOf, verdictCall, miningCall, minedReply, outputOf}
+use Rattle.conversion.specs.Calls.{listOf, bytesOf, verdictCall, miningCall, miningReply, miningOutput}
 use Rattle.conversion.specs.declared.mine.MiningReply.{MiningReply}
 use Rattle.conversion.specs.declared.mine.MiningReply.the-variants.{Refused as RefusedMining, Wrote as WroteList}
 use Rattle.conversion.specs.declared.verdict.VerdictReply.{VerdictReply}
@@ -37,7 +37,8 @@ use Rattle.house_layout.proofs.RecordLaws.{by-check}
 use Rattle.conversion.proofs.Demand3.{convertible-accepted, convertible-verdict, mining-exact}
 use Rattle.conversion.proofs.Demand3.{mining-short, length-bound, no-word-parties, rival-parties}
 use Rattle.fields.specs.Decimal.{decimalText}
-use Rattle.report.specs.Report.{Inside, pairText, refusedLine, verdictLine, listPart, fileText, reportText}
+use Rattle.report.specs.promises.Prefix.{PrefixLength}
+use Rattle.report.specs.Report.{pairText, refusedLine, verdictLine, listPart, fileText, reportText}
 use Rattle.fields.proofs.WroteLaws.{wrote-two}
 use Rattle.fields.proofs.DecimalLaws.{decimal-length}
 use Rattle.report.proofs.LineLaws.{pair-length, refused-length, convertible-length, no-word-length, rival-length}
@@ -88,7 +89,7 @@ cut-text input h =
     (λ e. absurd (cut-refused input h e))
     (λ x e. (x, sym (read-text input) ∙ refused-text (take 44713 input) x e))
 
-pub inside : (n : ℕ) (l : List ℕ) → n ≤ length l → Inside n l
+pub inside : (n : ℕ) (l : List ℕ) → n ≤ length l → PrefixLength n l
 inside n l h = (h, sym (length-take-le n l h))
 
 -- what was written from the first byte on is what stands there: so `text[..r]`, which permitconv prints, is the text
@@ -99,7 +100,7 @@ wrote-text {old} {x} {new} {end} w =
     rw (p, w .bytes) (take-append-seam x (drop (0 + length x) old))
 
 -- what was written from the first byte on is counted inside the slice
-pub wrote-inside : {old x new : List ℕ} {end : ℕ} → Wrote old 0 x new end → Inside end new
+pub wrote-inside : {old x new : List ℕ} {end : ℕ} → Wrote old 0 x new end → PrefixLength end new
 unfolding put
 wrote-inside {old} {x} {new} {end} w =
     let n : length new ≡ length x + length (drop (0 + length x) old) = ap length (w .bytes) ∙ length-append x (drop (0 + length x) old) in
@@ -137,14 +138,15 @@ unfolding fileText
 text-by f v e = rw e
 
 module _ (f : List ℕ) {v : VerdictReply} (e : verdictCall f ≡ v) {old new : List ℕ} {end : ℕ} where
-  pub line-alone : listPart (matterOf f) v ≡ [] → Wrote old 0 (verdictLine v) new end → Wrote old 0 (fileText f) new end × Inside end new
+  pub line-alone : listPart (matterOf f) v ≡ [] → Wrote old 0 (verdictLine v) new end
+      → Wrote old 0 (fileText f) new end × PrefixLength end new
   line-alone n w =
       let t : fileText f ≡ verdictLine v = text-by f v e ∙ ap (λ (l : List ℕ). verdictLine v ++ l) n ∙ append-nil (verdictLine v) in
       (rw t w, wrote-inside w)
 
   pub line-then-list :
       {out : List ℕ} {last : ℕ} → Wrote old 0 (verdictLine v) out end → Wrote out end (listPart (matterOf f) v) new last
-      → Wrote old 0 (fileText f) new last × Inside last new
+      → Wrote old 0 (fileText f) new last × PrefixLength last new
   line-then-list w p =
       let q = wrote-two w p (omega arith) in
       (rw (text-by f v e) q, wrote-inside q)
@@ -154,16 +156,20 @@ bytes-list : (f : List ℕ) → checkOf f ≡ check.Accepted → verdictOf (matt
 unfolding bytesOf listOf
 bytes-list f e v = mined-is-list f e refl v
 
+-- mining wrote the list of a convertible file: its j bytes, and the text's part that they are
+pub record MinedList (f : List ℕ) (k : ℕ) (list : List ℕ) (j : ℕ) : Type 0 where
+  pub bounded : j ≤ 65536
+  pub inside : j ≤ length list
+  pub bytes : IsList (take j list) (listOf (matterOf f))
+  pub part : listPart (matterOf f) (Convertible k) ≡ listText (listOf (matterOf f))
+
 -- what mining answers for a convertible file, lent 1,024 bytes of scratch and 65,536 of output: the list, or that it is too long
 abbrev pub MinedAs : List ℕ → ℕ → List ℕ → MiningReply → Type 0
-MinedAs f k list (WroteList j) =
-    (j ≤ 65536)
-    × ((j ≤ length list) × (IsList (take j list) (listOf (matterOf f))
-    × (listPart (matterOf f) (Convertible k) ≡ listText (listOf (matterOf f)))))
+MinedAs f k list (WroteList j) = MinedList f k list j
 MinedAs f k list (RefusedMining x) = listPart (matterOf f) (Convertible k) ≡ refusedLine x
 
 pub mined-as : (f : List ℕ) (k : ℕ) → verdictCall f ≡ Convertible k → (scratch old : List ℕ) → length scratch ≡ 1024 → length old ≡ 65536
-    → MinedAs f k (outputOf (miningCall f (length scratch) (length old)) old) (minedReply (miningCall f (length scratch) (length old)))
+    → MinedAs f k (miningOutput (miningCall f (length scratch) (length old)) old) (miningReply (miningCall f (length scratch) (length old)))
 mined-as f k v scratch old s o =
     let e = convertible-accepted f k v in
     by-test (leb k 65536)
@@ -173,7 +179,12 @@ mined-as f k v scratch old s o =
     let written : List ℕ = bytesOf (matterOf f) in
     let kept : List ℕ = drop (length written) old in
     let is = bytes-list f e (convertible-verdict f e k v .0) in
-    rw (m .answer) (omega (arith, m .size), (omega (arith, length-append written kept), (rw (take-append-seam written kept) is, rw t))))
+    rw (m .answer) (record {
+      bounded = omega (arith, m .size);
+      inside = omega (arith, length-append written kept);
+      bytes = rw (take-append-seam written kept) is;
+      part = rw t;
+    }))
     (λ t.
     let l : 65536 < k = leb-false k 65536 t in
     rw (mining-short f e k v (length scratch) (length old) (omega arith) (omega arith), t))

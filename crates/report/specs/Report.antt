@@ -1,25 +1,21 @@
 -- What permitconv prints (01, "Program permitconv"): a line of the verdict, then the list or why there is none.
-use Prim.Native.Nat.{ℕ, _≤_}
-use mathlib.Core.Path.{_≡_}
+use Prim.Native.Nat.{ℕ, _+_}
 use mathlib.Core.List.{List, [], _∷_, _++_}
-use lib.ListN.{length, take}
+use lib.ListN.{take}
 use lib.Dec.{leb}
 use Rattle.fields.specs.Decimal.{decimalText}
 use Rattle.rebac.specs.Matter.{Matter}
+use Rattle.house_layout.specs.Layout.{longestFile}
 use Rattle.house_layout.specs.Reply.{numberOf}
 use Rattle.lists.specs.Lists.{pick}
 use Rattle.house_layout.specs.declared.reply.Refusal.{Refusal}
 use Rattle.house_layout.specs.declared.reply.Refusal.the-variants.{Output}
-use Rattle.graph.specs.Archive.{matterOf}
+use Rattle.graph.specs.FileMatter.{matterOf}
 use Rattle.rule_text.specs.Text.{lineEnd, listText}
 use Rattle.mining.specs.declared.build.Pair.{Pair}
 use Rattle.conversion.specs.Calls.{listOf, verdictCall}
 use Rattle.conversion.specs.declared.verdict.VerdictReply.{VerdictReply}
 use Rattle.conversion.specs.declared.verdict.VerdictReply.the-variants.{Refused, Convertible, NoWord, Rival}
-
--- a count of bytes at the start of a slice
-abbrev pub Inside : ℕ → List ℕ → Type 0
-Inside n l = (n ≤ length l) × (n ≡ length (take n l))
 
 abbrev pub space : List ℕ
 space = 32 ∷ []
@@ -58,10 +54,14 @@ verdictLine (Convertible k) = convertibleText ++ (decimalText k ++ lineEnd)
 verdictLine (NoWord p) = notConvertibleText ++ (pairText p ++ (noWordText ++ lineEnd))
 verdictLine (Rival p q) = notConvertibleText ++ (pairText p ++ (rivalText ++ (pairText q ++ lineEnd)))
 
+-- the longest list that is printed
+abbrev pub listLimit : ℕ
+listLimit = 65536
+
 -- "then a line for each term"; "A list above 65,536 bytes: its first line, then "refused 14"."
 abbrev pub listPart : Matter → VerdictReply → List ℕ
 listPart M (Refused x) = []
-listPart M (Convertible k) = pick (leb k 65536) (listText (listOf M)) (refusedLine Output)
+listPart M (Convertible k) = pick (leb k listLimit) (listText (listOf M)) (refusedLine Output)
 listPart M (NoWord p) = []
 listPart M (Rival p q) = []
 
@@ -69,6 +69,10 @@ listPart M (Rival p q) = []
 unfoldable pub fileText : List ℕ → List ℕ
 fileText f = verdictLine (verdictCall f) ++ listPart (matterOf f) (verdictCall f)
 
+-- one byte more than the longest file has: more is cut, and what is cut is then refused
+abbrev pub readLimit : ℕ
+readLimit = longestFile + 1
+
 -- "reads a file from standard input (..; more is cut ..) and prints"; 02, Ticket 2: "The program reads up to 44,713 bytes."
 unfoldable pub reportText : List ℕ → List ℕ
-reportText input = fileText (take 44713 input)
+reportText input = fileText (take readLimit input)

@@ -2,7 +2,7 @@
 ghost use Prim.Native.Nat.{_+_, _≤_};
 ghost use lib.ListN.{length};
 ghost use Rattle.conversion.specs.declared.verdict.VerdictReply.the-variants.{Convertible, NoWord, Rival};
-ghost use Rattle.fields.specs.Writing.{Wrote};
+ghost use Rattle.fields.specs.promises.Writing.{Wrote};
 ghost use Rattle.report.specs.Report.{pairText, refusedLine, verdictLine};
 use conversion::VerdictReply;
 use fields::put_bytes;

@@ -8,7 +8,7 @@ use native.Mathlib.Numerals.{add-one}
 use lib.ListN.{getD, set, length, take, drop, replicate}
 use lib.Seq.{paste-suc, length-take-le}
 use Rattle.search.specs.declared.word.Word.{Word}
-use Rattle.search.specs.Word.{wordOf}
+use Rattle.search.specs.promises.WordValues.{wordOf}
 
 abbrev pub front : List ℕ → List ℕ → ℕ → List ℕ
 front d s i = take i s ++ drop i d
@@ -24,8 +24,12 @@ drop-zeros n zero = rw sub-zero refl
 drop-zeros zero (suc i) = rw zero-sub refl
 drop-zeros (suc n) (suc i) = let e : n - i ≡ suc n - suc i = omega arith in drop-zeros n i ∙ ap (λ (k : ℕ). replicate k 0) e
 
-word-eq : (l s : List ℕ) (n : ℕ) → length l ≡ n → s ≡ l ++ replicate (31 - n) 0 → _≡_ {A = Word} (record { len = n; symbols = s }) (wordOf l)
+word-eq :
+    (l s : List ℕ) (n : ℕ) → length l ≡ n → s ≡ l ++ replicate (31 - n) 0
+    → _≡_ {A = Word} (record { len = n; symbols = s }) (wordOf l)
 word-eq l s n h e = cc
 
-pub read-eq : (d s : List ℕ) (n : ℕ) → n ≤ length d → s ≡ front (replicate 31 0) d n → _≡_ {A = Word} (record { len = n; symbols = s }) (wordOf (take n d))
+pub read-eq :
+    (d s : List ℕ) (n : ℕ) → n ≤ length d → s ≡ front (replicate 31 0) d n
+    → _≡_ {A = Word} (record { len = n; symbols = s }) (wordOf (take n d))
 read-eq d s n h e = word-eq (take n d) s n (length-take-le n d h) (e ∙ ap (λ (r : List ℕ). take n d ++ r) (drop-zeros 31 n))

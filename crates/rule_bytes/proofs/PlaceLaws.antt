@@ -15,10 +15,11 @@ use Rattle.fields.specs.Numbers.{u16At, u16Bytes}
 use Rattle.lists.proofs.ListLaws.{all-in}
 use Rattle.lists.proofs.Pointwise.{getD-below}
 use Rattle.search.proofs.ValueLaws.{value-full, value-below}
-use Rattle.search.specs.Word.{Short, wordOf}
-use Rattle.rule_bytes.specs.ListBytes.{encodeWord, encodeTerm, encodeList, Parsed, parsed, decodeCount, legalWord, LegalList}
+use Rattle.search.specs.promises.WordValues.{Short, wordOf}
+use Rattle.rule_bytes.specs.ListBytes.{encodeWord, encodeTerm, encodeList, Parsed, parsed, decodeCount, legalWord, LegalTerm}
+use Rattle.rule_bytes.specs.ListBytes.{LegalList}
 use Rattle.graph.specs.Legal.{legalSymbol}
-use Rattle.rule_bytes.specs.Reading.{WordFits, wordAt, FitWord, FitTerm, FitList, TermAt, IsList}
+use Rattle.rule_bytes.specs.promises.Reading.{WordFits, wordAt, FitWord, FitTerm, FitList, TermAt, IsList}
 use Rattle.fields.proofs.NumberLaws.{u16-size}
 use Rattle.rule_bytes.proofs.RoundTrip.{count-encode}
 use Rattle.rule_bytes.proofs.ReadingLaws.{drop-on, count-here}
@@ -38,11 +39,11 @@ pub record Entry {A : Type 0} (e : A → List ℕ) (P : A → Type 0) (b : List 
   pub fits : P first
   pub onward : (next : ℕ) → drop next b ≡ flatMap e rest ++ s → Ahead e P b next (left - 1) rest s
 
-module _ {A : Type 0} (e : A → List ℕ) (P : A → Type 0) (b : List ℕ) (place left : ℕ) where
-  pub entry : (xs : List A) (s : List ℕ) → 0 < left → Ahead e P b place left xs s → Entry e P b place left xs s
+module _ {A : Type 0} {e : A → List ℕ} {P : A → Type 0} {b : List ℕ} {place left : ℕ} {s : List ℕ} where
+  pub entry : (xs : List A) → Ahead e P b place left xs s → 0 < left → Entry e P b place left xs s
   unfolding flatMap
-  entry [] s h a = absurd (omega (arith, a .number))
-  entry (x ∷ xs) s h a = record {
+  entry [] a h = absurd (omega (arith, a .number))
+  entry (x ∷ xs) a h = record {
     first = x;
     rest = xs;
     split = refl;
@@ -51,10 +52,10 @@ module _ {A : Type 0} (e : A → List ℕ) (P : A → Type 0) (b : List ℕ) (pl
     onward = λ next k. record { bytes = k; number = omega (arith, a .number); fits = λ y m. a .fits y (List·Memᴰ·tail m) };
   }
 
-  pub no-more : (xs : List A) (s : List ℕ) → left ≡ 0 → Ahead e P b place left xs s → (xs ≡ []) × (drop place b ≡ s)
+  pub no-more : (xs : List A) → Ahead e P b place left xs s → left ≡ 0 → (xs ≡ []) × (drop place b ≡ s)
   unfolding flatMap
-  no-more [] s z a = (refl, a .bytes)
-  no-more (x ∷ xs) s z a = absurd (omega (arith, a .number))
+  no-more [] a z = (refl, a .bytes)
+  no-more (x ∷ xs) a z = absurd (omega (arith, a .number))
 
 -- a word at a place
 module _ (b : List ℕ) (at : ℕ) (w s : List ℕ) (here : drop at b ≡ encodeWord w ++ s) where
@@ -80,7 +81,11 @@ module _ (b : List ℕ) (at : ℕ) (w s : List ℕ) (here : drop at b ≡ encode
   word-ends = rw word-byte
 
   pub word-fits : FitWord w → WordFits b at
-  word-fits f = record { place = omega (arith, word-room); small = omega (arith, word-byte, f .len); end = omega (arith, word-byte, word-room) }
+  word-fits f = record {
+    place = omega (arith, word-room);
+    small = omega (arith, word-byte, f .len);
+    end = omega (arith, word-byte, word-room);
+  }
 
 -- the word value of a word that fits
 pub word-short : (w : List ℕ) → FitWord w → Short (wordOf w)
@@ -110,13 +115,20 @@ module _ (b : List ℕ) (at n : ℕ) (s : List ℕ) (here : drop at b ≡ u16Byt
 
 pub term-room : (b : List ℕ) (at : ℕ) (t : List (List ℕ)) (s : List ℕ) → TermAt b at t s → at + 1 < length b
 unfolding encodeTerm
-term-room b at t s h = count-room b at (length t) (flatMap encodeWord t ++ s) (h .bytes ∙ append-assoc (u16Bytes (length t)) (flatMap encodeWord t) s)
+term-room b at t s h =
+    let e = h .bytes ∙ append-assoc (u16Bytes (length t)) (flatMap encodeWord t) s in
+    count-room b at (length t) (flatMap encodeWord t ++ s) e
 
-pub term-ahead : (b : List ℕ) (at : ℕ) (t : List (List ℕ)) (s : List ℕ) → TermAt b at t s → Ahead encodeWord FitWord b (at + 2) (u16At b at) t s
+pub term-ahead :
+    (b : List ℕ) (at : ℕ) (t : List (List ℕ)) (s : List ℕ) → TermAt b at t s → Ahead encodeWord FitWord b (at + 2) (u16At b at) t s
 unfolding encodeTerm
 term-ahead b at t s h =
     let e = h .bytes ∙ append-assoc (u16Bytes (length t)) (flatMap encodeWord t) s in
-    record { bytes = count-next b at (length t) (flatMap encodeWord t ++ s) e; number = sym (count-value b at (length t) (flatMap encodeWord t ++ s) e); fits = h .fits .words }
+    record {
+      bytes = count-next b at (length t) (flatMap encodeWord t ++ s) e;
+      number = sym (count-value b at (length t) (flatMap encodeWord t ++ s) e);
+      fits = h .fits .words;
+    }
 
 pub list-room : (b : List ℕ) (l : List (List (List ℕ))) → IsList b l → 1 < length b
 unfolding encodeList
@@ -125,10 +137,14 @@ list-room b l h = count-room b 0 (length l) (flatMap encodeTerm l) (h .bytes)
 pub list-ahead : (b : List ℕ) (l : List (List (List ℕ))) → IsList b l → Ahead encodeTerm FitTerm b 2 (u16At b 0) l []
 unfolding encodeList
 list-ahead b l h =
-    record { bytes = count-next b 0 (length l) (flatMap encodeTerm l) (h .bytes) ∙ sym (append-nil (flatMap encodeTerm l)); number = sym (count-value b 0 (length l) (flatMap encodeTerm l) (h .bytes)); fits = h .fits .terms }
+    record {
+      bytes = count-next b 0 (length l) (flatMap encodeTerm l) (h .bytes) ∙ sym (append-nil (flatMap encodeTerm l));
+      number = sym (count-value b 0 (length l) (flatMap encodeTerm l) (h .bytes));
+      fits = h .fits .terms;
+    }
 
 -- a legal list fits, by the limits of L and D
-module _ (labels language longest : ℕ) (few : labels ≤ 8) (short : longest ≤ 31) where
+module _ (labels language longest : ℕ) (bounded : labels ≤ 8) (short : longest ≤ 31) where
   symbols-small : (w : List ℕ) → allOf (legalSymbol labels language) w ≡ true → (i : ℕ) → getD w i 0 < 32
   unfolding legalSymbol
   symbols-small w h =
@@ -143,5 +159,8 @@ module _ (labels language longest : ℕ) (few : labels ≤ 8) (short : longest �
       let l : length w ≤ longest = leb-true _ _ (and-left _ _ k) in
       record { len = omega arith; symbols = symbols-small w (and-right (leb (length w) longest) _ k) }
 
+  term-legal-fits : (t : List (List ℕ)) → LegalTerm labels language longest t → FitTerm t
+  term-legal-fits t k = record { number = k .fits; words = λ w n. word-legal-fits w (k .words w n) }
+
   pub list-legal-fits : (l : List (List (List ℕ))) → LegalList labels language longest l → FitList l
-  list-legal-fits l h = record { number = h .fits; terms = λ t m. let k = h .terms t m in record { number = k .fits; words = λ w n. word-legal-fits w (k .words w n) } }
+  list-legal-fits l h = record { number = h .fits; terms = λ t m. term-legal-fits t (h .terms t m) }

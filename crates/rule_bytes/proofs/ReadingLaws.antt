@@ -13,11 +13,13 @@ use lib.Dec.{leb, eqb}
 use borrow.Author.Tests.{leb-true, le-leb, lt-leb, eqb-true, eqb-false}
 use Rattle.lists.specs.Lists.{allOf}
 use Rattle.lists.proofs.Cases.{by-test, and-false}
-use Rattle.rebac.specs.Options.{given, isSome}
+use Rattle.rebac.specs.Options.{given}
+use Rattle.rebac.specs.promises.Options.{isSome}
 use Rattle.fields.specs.Numbers.{u16At}
-use Rattle.rule_bytes.specs.ListBytes.{Parsed, parsed, andThen, whole, decodeCount, decodeMany, legalWord, decodeWord, decodeTerm, decodeTerms, decodeList}
+use Rattle.rule_bytes.specs.ListBytes.{Parsed, parsed, andThen, whole, decodeCount, decodeMany, legalWord, decodeWord}
+use Rattle.rule_bytes.specs.ListBytes.{decodeTerm, decodeTerms, decodeList}
 use Rattle.graph.specs.Legal.{legalSymbol}
-use Rattle.rule_bytes.specs.Reading.{Passes}
+use Rattle.rule_bytes.specs.promises.Reading.{Passes}
 use Rattle.rule_bytes.specs.declared.check.Passed.{Passed}
 use Rattle.rule_bytes.specs.declared.check.Passed.the-variants.{To, Broken}
 
@@ -56,12 +58,16 @@ module _ (labels language longest : ℕ) where
 
     -- k: the length byte
     module _ (k : ℕ) (here : at < length b) (size : k ≡ getD b at 0) where
-      word-here : decodeWord labels language longest (drop at b)
-          ≡ given (leb k (length (drop (at + 1) b)) && legalWord labels language longest (take k (drop (at + 1) b))) (parsed (take k (drop (at + 1) b)) (drop k (drop (at + 1) b)))
+      word-here :
+          decodeWord labels language longest (drop at b)
+          ≡ given (leb k (length (drop (at + 1) b)) && legalWord labels language longest (take k (drop (at + 1) b)))
+          (parsed (take k (drop (at + 1) b)) (drop k (drop (at + 1) b)))
       unfolding decodeWord
       word-here = rw (drop-cons b at 0 here, ← size, add-one at)
 
-      word-bad : (k ≤ length (drop (at + 1) b) → legalWord labels language longest (take k (drop (at + 1) b)) ≡ false) → decodeWord labels language longest (drop at b) ≡ none
+      word-bad :
+          (k ≤ length (drop (at + 1) b) → legalWord labels language longest (take k (drop (at + 1) b)) ≡ false)
+          → decodeWord labels language longest (drop at b) ≡ none
       word-bad f = word-here ∙ by-test (leb k (length (drop (at + 1) b))) (λ e. rw (e, f (leb-true _ _ e))) (λ e. rw e)
 
       pub word-empty : k ≡ 0 → decodeWord labels language longest (drop at b) ≡ none
@@ -73,47 +79,79 @@ module _ (labels language longest : ℕ) where
       pub word-cut : length b - (at + 1) < k → decodeWord labels language longest (drop at b) ≡ none
       word-cut l = word-bad (λ h. absurd (omega (arith, length-drop (at + 1) b)))
 
-      pub word-wrong : allOf (legalSymbol labels language) (slice (at + 1) (at + 1 + k) b) ≡ false → decodeWord labels language longest (drop at b) ≡ none
+      pub word-wrong :
+          allOf (legalSymbol labels language) (slice (at + 1) (at + 1 + k) b) ≡ false
+          → decodeWord labels language longest (drop at b) ≡ none
       word-wrong e = word-bad (λ h. symbols-bad _ (rw (slice-take (at + 1) k b) at e))
 
-      pub word-good : k ≤ length b - (at + 1) → 1 ≤ k → k ≤ longest → allOf (legalSymbol labels language) (slice (at + 1) (at + 1 + k) b) ≡ true
+      pub word-good :
+          k ≤ length b - (at + 1) → 1 ≤ k → k ≤ longest → allOf (legalSymbol labels language) (slice (at + 1) (at + 1 + k) b) ≡ true
           → decodeWord labels language longest (drop at b) ≡ parsed (take k (drop (at + 1) b)) (drop (at + 1 + k) b)
       word-good h one l e =
-          let m : k ≤ length (drop (at + 1) b) = omega (arith, length-drop (at + 1) b) in
-          word-here ∙ rw (le-leb k (length (drop (at + 1) b)) m, all-good k (drop (at + 1) b) m one l (rw (slice-take (at + 1) k b) at e), drop-on b (at + 1) k)
+          let r : List ℕ = drop (at + 1) b in
+          let m : k ≤ length r = omega (arith, length-drop (at + 1) b) in
+          let g = all-good k r m one l (rw (slice-take (at + 1) k b) at e) in
+          word-here ∙ rw (le-leb k (length r) m, g, drop-on b (at + 1) k)
 
 -- entries read so far, in front of those to come
-abbrev pub onto : {A : Type 0} → List A → Option (Parsed (List A)) → Option (Parsed (List A))
-onto v none = none
-onto v (some r) = parsed (v ++ r .value) (r .rest)
+abbrev prependParsed : {A : Type 0} → List A → Option (Parsed (List A)) → Option (Parsed (List A))
+prependParsed v none = none
+prependParsed v (some r) = parsed (v ++ r .value) (r .rest)
 
-onto-nil : {A : Type 0} (o : Option (Parsed (List A))) → onto [] o ≡ o
-onto-nil none = refl
-onto-nil (some r) = refl
+prepend-nil : {A : Type 0} (o : Option (Parsed (List A))) → prependParsed [] o ≡ o
+prepend-nil none = refl
+prepend-nil (some r) = refl
 
 module _ {A : Type 0} (f : List ℕ → Option (Parsed A)) where
-  more-step : (v : List A) (x : A) (o : Option (Parsed (List A))) → onto v (andThen o (λ xs q. parsed (x ∷ xs) q)) ≡ onto (v ++ (x ∷ [])) o
+  more-step : (v : List A) (x : A) (o : Option (Parsed (List A)))
+      → prependParsed v (andThen o (λ xs q. parsed (x ∷ xs) q)) ≡ prependParsed (v ++ (x ∷ [])) o
   more-step v x none = refl
   more-step v x (some r) = rw (append-assoc v (x ∷ []) (r .value))
 
-  pub many-start : (k : ℕ) (s : List ℕ) → decodeMany f k s ≡ onto [] (decodeMany f k s)
-  many-start k s = sym (onto-nil (decodeMany f k s))
+  many-start : (k : ℕ) (s : List ℕ) → decodeMany f k s ≡ prependParsed [] (decodeMany f k s)
+  many-start k s = sym (prepend-nil (decodeMany f k s))
 
   -- one more was read
-  pub many-more : (v : List A) (k : ℕ) (s : List ℕ) (x : A) (q : List ℕ) → 0 < k → f s ≡ parsed x q → onto v (decodeMany f k s) ≡ onto (v ++ (x ∷ [])) (decodeMany f (k - 1) q)
+  many-more :
+      (v : List A) (k : ℕ) (s : List ℕ) (x : A) (q : List ℕ) → 0 < k → f s ≡ parsed x q
+      → prependParsed v (decodeMany f k s) ≡ prependParsed (v ++ (x ∷ [])) (decodeMany f (k - 1) q)
   unfolding decodeMany
   many-more v zero s x q h e = absurd (omega arith)
   many-more v (suc k) s x q h e = let z : suc k - 1 ≡ k = omega arith in rw (e, z) (more-step v x (decodeMany f k q))
 
   -- one cannot be read
-  pub many-broken : (v : List A) (k : ℕ) (s : List ℕ) → 0 < k → f s ≡ none → onto v (decodeMany f k s) ≡ none
+  many-broken : (v : List A) (k : ℕ) (s : List ℕ) → 0 < k → f s ≡ none → prependParsed v (decodeMany f k s) ≡ none
   unfolding decodeMany
   many-broken v zero s h e = absurd (omega arith)
   many-broken v (suc k) s h e = rw e
 
-  pub many-end : (v : List A) (k : ℕ) (s : List ℕ) → k ≡ 0 → onto v (decodeMany f k s) ≡ parsed v s
+  many-end : (v : List A) (k : ℕ) (s : List ℕ) → k ≡ 0 → prependParsed v (decodeMany f k s) ≡ parsed v s
   unfolding decodeMany
   many-end v k s e = rw (e, append-nil v)
+
+-- of `number` entries from the place `at` on some were read, and `left` are to come from `place` on
+pub record ReadSoFar {A : Type 0} (f : List ℕ → Option (Parsed A)) (b : List ℕ) (at number place left : ℕ) : Type 0 where
+  pub inside : place ≤ length b
+  pub read : List A
+  pub rest : decodeMany f number (drop at b) ≡ prependParsed read (decodeMany f left (drop place b))
+
+module _ {A : Type 0} {f : List ℕ → Option (Parsed A)} {b : List ℕ} {at number : ℕ} where
+  pub so-far-start : at ≤ length b → ReadSoFar f b at number at number
+  so-far-start h = record { inside = h; read = []; rest = many-start f number (drop at b) }
+
+  module _ {place left : ℕ} (so : ReadSoFar f b at number place left) where
+    pub so-far-more : {next : ℕ} → 0 < left → Passes f b place (To next) → ReadSoFar f b at number next (left - 1)
+    so-far-more h p = record {
+      inside = p .0;
+      read = so .read ++ (p .1 .0 ∷ []);
+      rest = so .rest ∙ many-more f (so .read) left _ _ _ h (p .1 .1);
+    }
+
+    pub so-far-broken : 0 < left → Passes f b place Broken → decodeMany f number (drop at b) ≡ none
+    so-far-broken h p = so .rest ∙ many-broken f (so .read) left _ h p
+
+    pub so-far-end : left ≡ 0 → Passes (decodeMany f number) b at (To place)
+    so-far-end z = (so .inside, (so .read, so .rest ∙ many-end f (so .read) left _ z))
 
 -- the count at a place
 pub count-here : (b : List ℕ) (at : ℕ) → at + 1 < length b → decodeCount (drop at b) ≡ parsed (u16At b at) (drop (at + 2) b)
@@ -146,7 +184,9 @@ unfolding allOf
 symbols-end p b end = rw (slice-empty end b)
 
 -- what one decoder passes another does that reads the same
-pub passes-same : {A : Type 0} (f g : List ℕ → Option (Parsed A)) (b : List ℕ) (at from : ℕ) (r : Passed) → f (drop at b) ≡ g (drop from b) → Passes g b from r → Passes f b at r
+pub passes-same :
+    {A : Type 0} (f g : List ℕ → Option (Parsed A)) (b : List ℕ) (at from : ℕ) (r : Passed) → f (drop at b) ≡ g (drop from b)
+    → Passes g b from r → Passes f b at r
 passes-same f g b at from (To next) e h = (h .0, (h .1 .0, e ∙ h .1 .1))
 passes-same f g b at from Broken e h = e ∙ h
 
@@ -161,7 +201,9 @@ module _ (labels language longest : ℕ) (b : List ℕ) where
       unfolding decodeTerm
       term-empty e = rw (count-here b at here, ← number, e)
 
-      pub term-here : (k ≡ 0 → ⊥) → decodeTerm labels language longest (drop at b) ≡ decodeMany (decodeWord labels language longest) k (drop (at + 2) b)
+      pub term-here :
+          (k ≡ 0 → ⊥)
+          → decodeTerm labels language longest (drop at b) ≡ decodeMany (decodeWord labels language longest) k (drop (at + 2) b)
       unfolding decodeTerm
       term-here z = rw (count-here b at here, ← number, le-leb 1 k (omega (arith, z)))
 
@@ -174,10 +216,13 @@ module _ (labels language longest : ℕ) (b : List ℕ) where
     unfolding decodeList decodeTerms
     list-here = rw (count-here b 0 here, ← number)
 
-    pub list-broken : decodeMany (decodeTerm labels language longest) k (drop 2 b) ≡ none → isSome (decodeList labels language longest b) ≡ false
+    pub list-broken :
+        decodeMany (decodeTerm labels language longest) k (drop 2 b) ≡ none → isSome (decodeList labels language longest b) ≡ false
     list-broken e = rw (list-here, e)
 
-    pub list-read : (v : List (List (List ℕ))) (end : ℕ) → end ≤ length b → decodeMany (decodeTerm labels language longest) k (drop 2 b) ≡ parsed v (drop end b)
+    pub list-read :
+        (v : List (List (List ℕ))) (end : ℕ) → end ≤ length b
+        → decodeMany (decodeTerm labels language longest) k (drop 2 b) ≡ parsed v (drop end b)
         → isSome (decodeList labels language longest b) ≡ eqb end (length b)
     list-read v end h e = rw (list-here, e) (by-test (eqb end (length b))
         (λ q. let z : end ≡ length b = eqb-true _ _ q in rw (q, drop-of-length-le b {i = end} (omega arith)))

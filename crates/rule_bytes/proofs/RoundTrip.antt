@@ -15,7 +15,8 @@ use Rattle.lists.proofs.Cases.{and-left, and-right}
 use Rattle.lists.proofs.OrderLaws.{length-flat}
 use Rattle.lists.proofs.Pieces.{flat-snoc}
 use Rattle.fields.specs.Numbers.{u16Bytes, Bytes}
-use Rattle.rule_bytes.specs.ListBytes.{encodeWord, encodeTerm, encodeList, Parsed, parsed, whole, decodeCount, legalWord, decodeWord, decodeTerm, decodeTerms, decodeList, LegalTerm, LegalList}
+use Rattle.rule_bytes.specs.ListBytes.{encodeWord, encodeTerm, encodeList, Parsed, parsed, whole, decodeCount, legalWord}
+use Rattle.rule_bytes.specs.ListBytes.{decodeWord, decodeTerm, decodeTerms, decodeList, LegalTerm, LegalList}
 use Rattle.fields.proofs.NumberLaws.{u16-size}
 use Rattle.rule_bytes.proofs.Parsing.{not-some, then-some, given-some, bytes-after, Back, many-encode, many-decode}
 
@@ -39,9 +40,13 @@ count-decode (a ∷ b ∷ s) r h e =
 
 module _ (labels language longest : ℕ) where
   -- words
-  pub word-encode : (w : List ℕ) → legalWord labels language longest w ≡ true → (s : List ℕ) → decodeWord labels language longest (encodeWord w ++ s) ≡ parsed w s
+  pub word-encode :
+      (w : List ℕ) → legalWord labels language longest w ≡ true → (s : List ℕ)
+      → decodeWord labels language longest (encodeWord w ++ s) ≡ parsed w s
   unfolding encodeWord decodeWord
-  word-encode w h s = rw (take-append-seam w s, drop-append-seam w s, le-leb (length w) (length (w ++ s)) (omega (arith, length-append w s)), h)
+  word-encode w h s =
+      let fits = le-leb (length w) (length (w ++ s)) (omega (arith, length-append w s)) in
+      rw (take-append-seam w s, drop-append-seam w s, fits, h)
 
   pub word-decode : (s : List ℕ) (r : Parsed (List ℕ)) → Bytes s → decodeWord labels language longest s ≡ some r
       → Back encodeWord (λ w. legalWord labels language longest w ≡ true) s (r .value) (r .rest)
@@ -55,10 +60,13 @@ module _ (labels language longest : ℕ) where
       rw (← v, ← t) (record { bytes = rw (length-take-le k s l, take-append-drop k s); holds = and-right (leb k (length s)) _ (g .0) })
 
   -- terms
-  pub term-encode : (t : List (List ℕ)) → LegalTerm labels language longest t → (s : List ℕ) → decodeTerm labels language longest (encodeTerm t ++ s) ≡ parsed t s
+  pub term-encode :
+      (t : List (List ℕ)) → LegalTerm labels language longest t → (s : List ℕ)
+      → decodeTerm labels language longest (encodeTerm t ++ s) ≡ parsed t s
   unfolding encodeTerm decodeTerm
   term-encode t h s =
-      rw (append-assoc (u16Bytes (length t)) (flatMap encodeWord t) s, count-encode (length t) (flatMap encodeWord t ++ s), le-leb 1 (length t) (h .full))
+      let count = count-encode (length t) (flatMap encodeWord t ++ s) in
+      rw (append-assoc (u16Bytes (length t)) (flatMap encodeWord t) s, count, le-leb 1 (length t) (h .full))
       (many-encode (decodeWord labels language longest) encodeWord t s (λ w m. word-encode w (h .words w m)))
 
   pub term-decode : (s : List ℕ) (r : Parsed (List (List ℕ))) → Bytes s → decodeTerm labels language longest s ≡ some r
@@ -68,15 +76,22 @@ module _ (labels language longest : ℕ) where
       let u = then-some (decodeCount s) _ e in
       let n = count-decode s (u .0) h (u .1) in
       let g = given-some (leb 1 (u .0 .value)) _ (u .2) in
-      let b = many-decode (decodeWord labels language longest) encodeWord (λ w. legalWord labels language longest w ≡ true) word-decode (u .0 .value)
-      (u .0 .rest) r (bytes-after (u16Bytes (u .0 .value)) (u .0 .rest) (rw (n .bytes) at h)) (g .1) in
+      let after = bytes-after (u16Bytes (u .0 .value)) (u .0 .rest) (rw (n .bytes) at h) in
+      let legal : List ℕ → Type 0 = λ w. legalWord labels language longest w ≡ true in
+      let b = many-decode (decodeWord labels language longest) encodeWord legal word-decode (u .0 .value) (u .0 .rest) r after (g .1) in
       record {
         bytes = n .bytes ∙ rw (b .bytes, b .number) (sym (append-assoc (u16Bytes (u .0 .value)) (flatMap encodeWord (r .value)) (r .rest)));
-        holds = record { full = omega (arith, b .number, leb-true 1 (u .0 .value) (g .0)); fits = omega (arith, b .number, n .holds); words = b .holds };
+        holds = record {
+          full = omega (arith, b .number, leb-true 1 (u .0 .value) (g .0));
+          fits = omega (arith, b .number, n .holds);
+          words = b .holds;
+        };
       }
 
   -- lists
-  pub terms-encode : (l : List (List (List ℕ))) → LegalList labels language longest l → (s : List ℕ) → decodeTerms labels language longest (encodeList l ++ s) ≡ parsed l s
+  pub terms-encode :
+      (l : List (List (List ℕ))) → LegalList labels language longest l → (s : List ℕ)
+      → decodeTerms labels language longest (encodeList l ++ s) ≡ parsed l s
   unfolding encodeList decodeTerms
   terms-encode l h s =
       rw (append-assoc (u16Bytes (length l)) (flatMap encodeTerm l) s, count-encode (length l) (flatMap encodeTerm l ++ s))
@@ -88,15 +103,17 @@ module _ (labels language longest : ℕ) where
   terms-decode s r h e =
       let u = then-some (decodeCount s) _ e in
       let n = count-decode s (u .0) h (u .1) in
-      let b = many-decode (decodeTerm labels language longest) encodeTerm (LegalTerm labels language longest) term-decode (u .0 .value) (u .0 .rest) r
-      (bytes-after (u16Bytes (u .0 .value)) (u .0 .rest) (rw (n .bytes) at h)) (u .2) in
+      let after = bytes-after (u16Bytes (u .0 .value)) (u .0 .rest) (rw (n .bytes) at h) in
+      let legal = LegalTerm labels language longest in
+      let b = many-decode (decodeTerm labels language longest) encodeTerm legal term-decode (u .0 .value) (u .0 .rest) r after (u .2) in
       record {
         bytes = n .bytes ∙ rw (b .bytes, b .number) (sym (append-assoc (u16Bytes (u .0 .value)) (flatMap encodeTerm (r .value)) (r .rest)));
         holds = record { fits = omega (arith, b .number, n .holds); terms = b .holds };
       }
 
   -- the bytes of a legal list are read as that list
-  pub decode-encode : (l : List (List (List ℕ))) → LegalList labels language longest l → decodeList labels language longest (encodeList l) ≡ some l
+  pub decode-encode :
+      (l : List (List (List ℕ))) → LegalList labels language longest l → decodeList labels language longest (encodeList l) ≡ some l
   unfolding decodeList
   decode-encode l h = let e = append-nil (encodeList l) in let q = terms-encode l h [] in rw (rw e at q)
 
@@ -115,10 +132,14 @@ module _ (labels language longest : ℕ) where
       let u = then-some (decodeTerms labels language longest b) _ e in
       let w = whole-some (u .0 .value) (u .0 .rest) (u .2) in
       let k = terms-decode b (u .0) h (u .1) in
-      record { bytes = rw (← w .0) (sym (append-nil (encodeList (u .0 .value))) ∙ ap (λ (z : List ℕ). encodeList (u .0 .value) ++ z) (sym (w .1)) ∙ sym (k .bytes)); legal = rw (← w .0) (k .holds) }
+      let x = encodeList (u .0 .value) in
+      let same = sym (append-nil x) ∙ ap (λ (z : List ℕ). x ++ z) (sym (w .1)) ∙ sym (k .bytes) in
+      record { bytes = rw (← w .0) same; legal = rw (← w .0) (k .holds) }
 
   -- bytes come from one list only
-  pub decode-once : (l m : List (List (List ℕ))) → LegalList labels language longest l → LegalList labels language longest m → encodeList l ≡ encodeList m → l ≡ m
+  pub decode-once :
+      (l m : List (List (List ℕ))) → LegalList labels language longest l → LegalList labels language longest m
+      → encodeList l ≡ encodeList m → l ≡ m
   decode-once l m h k e =
       let p = decode-encode l h in
       let q = decode-encode m k in

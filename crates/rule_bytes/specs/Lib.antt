@@ -1,2 +1,2 @@
 pub mod ListBytes
-pub mod Reading
+pub mod promises

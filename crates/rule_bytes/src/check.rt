@@ -4,10 +4,11 @@ ghost use Prim.Native.Nat.{_≤_};
 ghost use lib.ListN.{length};
 ghost use lib.Seq.{slice};
 ghost use Rattle.lists.specs.Lists.{allOf};
-ghost use Rattle.rebac.specs.Options.{isSome};
+ghost use Rattle.limits.specs.Limits.{lastLanguage};
+ghost use Rattle.rebac.specs.promises.Options.{isSome};
 ghost use Rattle.rule_bytes.specs.ListBytes.{decodeMany, decodeWord, decodeTerm, decodeList};
 ghost use Rattle.graph.specs.Legal.{legalSymbol};
-ghost use Rattle.rule_bytes.specs.Reading.{Passes};
+ghost use Rattle.rule_bytes.specs.promises.Reading.{Passes, SymbolRange};
 use fields::u16_at;
 use fields::wide;
 
@@ -19,7 +20,7 @@ pub enum Passed {
 
 // Whether the symbols from one place to another are legal.
 fn legal_symbols(list: &[u8], from: usize, end: usize, labels: usize, language: usize) -> bool
-    requires { ⌜ (language ≤ 3) × ((from ≤ end) × (end ≤ length (now list))) ⌝ }
+    requires { ⌜ SymbolRange (now list) from end language ⌝ }
     ensures { λ r. ⌜ r ≡ allOf (legalSymbol labels language) (slice from end (now (list .entry))) ⌝ }
 {
     let mut i = from;
@@ -34,7 +35,7 @@ fn legal_symbols(list: &[u8], from: usize, end: usize, labels: usize, language: 
 
 // The word at a place.
 fn check_word(list: &[u8], at: usize, labels: usize, language: usize, longest: usize) -> Passed
-    requires { ⌜ (language ≤ 3) × (at ≤ length (now list)) ⌝ }
+    requires { ⌜ (language ≤ lastLanguage) × (at ≤ length (now list)) ⌝ }
     ensures { λ r. ⌜ Passes (decodeWord labels language longest) (now (list .entry)) at r ⌝ }
 {
     if at == list.len() {
@@ -67,7 +68,7 @@ fn check_words(
     language: usize,
     longest: usize,
 ) -> Passed
-    requires { ⌜ (language ≤ 3) × (at ≤ length (now list)) ⌝ }
+    requires { ⌜ (language ≤ lastLanguage) × (at ≤ length (now list)) ⌝ }
     ensures { λ r. ⌜ Passes (decodeMany (decodeWord labels language longest) number) (now (list .entry)) at r ⌝ }
 {
     let mut place = at;
@@ -87,7 +88,7 @@ fn check_words(
 
 // The term at a place.
 fn check_term(list: &[u8], at: usize, labels: usize, language: usize, longest: usize) -> Passed
-    requires { ⌜ (language ≤ 3) × (at ≤ length (now list)) ⌝ }
+    requires { ⌜ (language ≤ lastLanguage) × (at ≤ length (now list)) ⌝ }
     ensures { λ r. ⌜ Passes (decodeTerm labels language longest) (now (list .entry)) at r ⌝ }
 {
     if list.len() - at < 2 {
@@ -109,7 +110,7 @@ fn check_terms(
     language: usize,
     longest: usize,
 ) -> Passed
-    requires { ⌜ (language ≤ 3) × (at ≤ length (now list)) ⌝ }
+    requires { ⌜ (language ≤ lastLanguage) × (at ≤ length (now list)) ⌝ }
     ensures { λ r. ⌜ Passes (decodeMany (decodeTerm labels language longest) number) (now (list .entry)) at r ⌝ }
 {
     let mut place = at;
@@ -129,7 +130,7 @@ fn check_terms(
 
 // Whether any bytes are a legal rule list; not is refusal 9.
 pub fn check_list(list: &[u8], labels: usize, language: usize, longest: usize) -> bool
-    requires { ⌜ language ≤ 3 ⌝ }
+    requires { ⌜ language ≤ lastLanguage ⌝ }
     ensures { λ r. ⌜ r ≡ isSome (decodeList labels language longest (now (list .entry))) ⌝ }
 {
     if list.len() < 2 {

@@ -2,9 +2,11 @@
 ghost use mathlib.Core.Path.{_≡_};
 ghost use Prim.Native.Nat.{_+_, _≤_};
 ghost use lib.ListN.{length, take, drop};
-ghost use Rattle.rule_bytes.specs.Reading.{WordFits, wordAt};
-ghost use Rattle.search.specs.Word.{wordOf};
+ghost use Rattle.limits.specs.Limits.{wordCapacity};
+ghost use Rattle.rule_bytes.specs.promises.Reading.{WordFits, wordAt};
+ghost use Rattle.search.specs.promises.WordValues.{wordOf};
 use fields::wide;
+use limits::WORD_CAPACITY;
 use search::Word;
 
 // A word, and the place after it.
@@ -15,10 +17,10 @@ pub struct WordRead {
 
 // The word of the `len` symbols from a place on.
 fn read_symbols(list: &[u8], from: usize, len: usize) -> Word
-    requires { ⌜ (len ≤ 31) × (from + len ≤ length (now list)) ⌝ }
+    requires { ⌜ (len ≤ wordCapacity) × (from + len ≤ length (now list)) ⌝ }
     ensures { λ r. ⌜ r ≡ wordOf (take len (drop from (now (list .entry)))) ⌝ }
 {
-    let mut symbols = [0u8; 31];
+    let mut symbols = [0u8; WORD_CAPACITY];
     let mut i = 0;
     while i < len {
         symbols[i] = list[from + i];

@@ -2,13 +2,14 @@
 ghost use mathlib.Core.Path.{_≡_};
 ghost use Prim.Native.Nat.{_+_, _≤_};
 ghost use lib.ListN.{length};
+ghost use Rattle.limits.specs.Limits.{wordCapacity};
 ghost use Rattle.search.specs.Word.{symbolsIn};
 ghost use Rattle.rule_bytes.specs.ListBytes.{encodeWord};
-ghost use Rattle.fields.specs.Writing.{put};
+ghost use Rattle.fields.specs.promises.Writing.{put};
 use search::Word;
 
 fn put_symbols(out: &mut [u8], at: usize, w: Word)
-    requires { ⌜ (w .len ≤ 31) × (at + w .len ≤ length (now out)) ⌝ }
+    requires { ⌜ (w .len ≤ wordCapacity) × (at + w .len ≤ length (now out)) ⌝ }
     ensures { λ _. ⌜ now (out .exit) ≡ put (now (out .entry)) at (symbolsIn w) ⌝ }
 {
     let len = w.len;
@@ -20,7 +21,7 @@ fn put_symbols(out: &mut [u8], at: usize, w: Word)
 }
 
 pub fn put_word(out: &mut [u8], at: usize, w: Word)
-    requires { ⌜ (w .len ≤ 31) × (at + 1 + w .len ≤ length (now out)) ⌝ }
+    requires { ⌜ (w .len ≤ wordCapacity) × (at + 1 + w .len ≤ length (now out)) ⌝ }
     ensures { λ _. ⌜ now (out .exit) ≡ put (now (out .entry)) at (encodeWord (symbolsIn w)) ⌝ }
 {
     out[at] = w.len as u8;

@@ -4,9 +4,10 @@ ghost use mathlib.Core.List.{List, _++_, []};
 ghost use Prim.Native.Nat.{ℕ, _+_, _*_, _-_, _≤_, _<_};
 ghost use lib.ListN.{length, drop};
 ghost use Rattle.lists.specs.Lists.{pick};
+ghost use Rattle.limits.specs.Limits.{wordCapacity};
 ghost use Rattle.search.specs.Word.{symbolsIn};
-ghost use Rattle.rule_bytes.specs.Reading.{TermAt, SomeTerm, IsList, SomeList};
-ghost use Rattle.fields.specs.Writing.{put};
+ghost use Rattle.rule_bytes.specs.promises.Reading.{TermAt, SomeTerm, IsList, SomeList};
+ghost use Rattle.fields.specs.promises.Writing.{put};
 ghost use Rattle.rule_text.specs.Text.{hexDigit, symbolText, wordText, termText, listText, dot, ampersand, lineEnd};
 use fields::u16_at;
 use rule_bytes::read_word;
@@ -38,7 +39,7 @@ fn put_symbol_text(out: &mut [u8], at: usize, s: u8, last: bool) -> usize
 }
 
 fn put_word_text(out: &mut [u8], at: usize, w: Word) -> usize
-    requires { ⌜ (w .len ≤ 31) × (at + 3 * w .len ≤ length (now out)) ⌝ }
+    requires { ⌜ (w .len ≤ wordCapacity) × (at + 3 * w .len ≤ length (now out)) ⌝ }
     ensures { λ _. ⌜ now (out .exit) ≡ put (now (out .entry)) at (wordText (symbolsIn w)) ⌝ }
     ensures { λ r. ⌜ r ≡ at + length (wordText (symbolsIn w)) ⌝ }
 {
@@ -54,7 +55,7 @@ fn put_word_text(out: &mut [u8], at: usize, w: Word) -> usize
 
 // A word of a term, and what follows it.
 fn put_entry_text(out: &mut [u8], at: usize, w: Word, last: bool) -> usize
-    requires { ⌜ (w .len ≤ 31) × (at + 3 * w .len + 3 ≤ length (now out)) ⌝ }
+    requires { ⌜ (w .len ≤ wordCapacity) × (at + 3 * w .len + 3 ≤ length (now out)) ⌝ }
     ensures { λ _. ⌜ now (out .exit) ≡ put (now (out .entry)) at (wordText (symbolsIn w) ++ pick last lineEnd ampersand) ⌝ }
     ensures { λ r. ⌜ r ≡ at + length (wordText (symbolsIn w) ++ pick last lineEnd ampersand) ⌝ }
 {
@@ -78,7 +79,9 @@ pub struct TermText {
 // The line of the term at a place of a checked list, written from place `to` on. Three bytes for each byte of the list are enough.
 pub fn put_term_text(list: &[u8], at: usize, out: &mut [u8], to: usize) -> TermText
     requires { ⌜ SomeTerm (now list) at × (to + 3 * (length (now list) - at) ≤ length (now out)) ⌝ }
-    ensures { λ r. ⌜ ((t : List (List ℕ)) (s : List ℕ) → TermAt (now (list .entry)) at t s → (now (out .exit) ≡ put (now (out .entry)) to (termText t)) × ((r .end ≡ to + length (termText t)) × (drop (r .next) (now (list .entry)) ≡ s))) ⌝ }
+    ensures { λ r. ⌜ ((t : List (List ℕ)) (s : List ℕ) → TermAt (now (list .entry)) at t s
+        → (now (out .exit) ≡ put (now (out .entry)) to (termText t))
+        × ((r .end ≡ to + length (termText t)) × (drop (r .next) (now (list .entry)) ≡ s))) ⌝ }
 {
     let mut left = u16_at(list, at);
     let mut place = at + 2;
@@ -96,7 +99,8 @@ pub fn put_term_text(list: &[u8], at: usize, out: &mut [u8], to: usize) -> TermT
 // The text of a checked list, from the first byte of `out` on, and its length.
 pub fn list_text(list: &[u8], out: &mut [u8]) -> usize
     requires { ⌜ SomeList (now list) × (3 * length (now list) ≤ length (now out)) ⌝ }
-    ensures { λ r. ⌜ ((l : List (List (List ℕ))) → IsList (now (list .entry)) l → (now (out .exit) ≡ put (now (out .entry)) 0 (listText l)) × (r ≡ length (listText l))) ⌝ }
+    ensures { λ r. ⌜ ((l : List (List (List ℕ))) → IsList (now (list .entry)) l
+        → (now (out .exit) ≡ put (now (out .entry)) 0 (listText l)) × (r ≡ length (listText l))) ⌝ }
 {
     let mut left = u16_at(list, 0);
     let mut place = 2;

@@ -19,16 +19,16 @@ use Rattle.rebac.specs.Verdict.{convertible}
 use Rattle.rebac.specs.Existence.{verdictOf, minedList, MatterWord, permitsPair, Converts, plainTerm, plainList}
 use Rattle.rebac.proofs.SymbolsLaws.{language-listed, listed-language}
 use Rattle.rebac.proofs.PairsLaws.{pairs-in}
-use Rattle.rebac.proofs.Conversion.{mined-converts, mined-terms-few, mined-items-few}
+use Rattle.rebac.proofs.Conversion.{mined-converts, mined-terms-bounded, mined-items-bounded}
 use Rattle.house_file.specs.Check.{checkOf}
 use Rattle.house_layout.specs.declared.reply.Check.the-variants.{Accepted}
-use Rattle.graph.specs.Archive.{matterOf}
+use Rattle.graph.specs.FileMatter.{matterOf}
 use Rattle.graph.proofs.LoadLaws.{accepted-limits}
 use Rattle.rule_bytes.specs.ListBytes.{encodeList, legalWord, LegalList}
 use Rattle.graph.specs.Legal.{legalSymbol, isPair}
-use Rattle.rule_bytes.specs.Reading.{IsList}
+use Rattle.rule_bytes.specs.promises.Reading.{IsList}
 use Rattle.rule_bytes.proofs.PlaceLaws.{list-legal-fits}
-use Rattle.rules.specs.Permit.{yesOrNo, permitIn, permitReply}
+use Rattle.rules.specs.Permit.{yesOrNo, permitIn, permitCall}
 use Rattle.rule_bytes.proofs.RoundTrip.{decode-encode}
 use Rattle.graph.proofs.LegalLaws.{pair-of, legal-symbol}
 
@@ -63,16 +63,16 @@ module _ (M : Matter) where
 
   -- and the mined list's do
   pub mined-legal : capOf (M .language) ≡ 1 → M .parties ≤ 32 → verdictOf M ≡ convertible → LegalFor M (plainList (minedList M))
-  mined-legal cap few v =
+  mined-legal cap bounded v =
       converts-legal (plainList (minedList M)) (mined-converts M cap v)
-      (omega (arith, length-map plainTerm (minedList M), mined-terms-few M few))
+      (omega (arith, length-map plainTerm (minedList M), mined-terms-bounded M bounded))
       (λ t m.
       let s = map-out plainTerm (minedList M) m in
-      rw (s .2) (omega (arith, length-map (λ i. i .word) (s .0), mined-items-few M few (s .0) (s .1))))
+      rw (s .2) (omega (arith, length-map (λ i. i .word) (s .0), mined-items-bounded M bounded (s .0) (s .1))))
 
 -- the bytes of a legal list are a list for `meets_list` and `list_text`
 pub legal-is-list : (M : Matter) → M .labels ≤ 8 → M .longest ≤ 31 → (l : List (List Word)) → LegalFor M l → IsList (encodeList l) l
-legal-is-list M few short l h = record { bytes = refl; fits = list-legal-fits (M .labels) (M .language) (M .longest) few short l h }
+legal-is-list M bounded short l h = record { bytes = refl; fits = list-legal-fits (M .labels) (M .language) (M .longest) bounded short l h }
 
 -- the mined list's among them
 pub mined-is-list : (f : List ℕ) → checkOf f ≡ Accepted → capOf (matterOf f .language) ≡ 1 → verdictOf (matterOf f) ≡ convertible
@@ -84,14 +84,14 @@ mined-is-list f e cap v =
 
 -- permit on the bytes of a legal list
 pub permit-of-list : (f : List ℕ) → checkOf f ≡ Accepted → (l : List (List Word)) → LegalFor (matterOf f) l → (a b : ℕ)
-    → isPair (matterOf f .parties) a b ≡ true → permitReply f (encodeList l) a b ≡ yesOrNo (permitsPair (matterOf f) l (pair a b))
-unfolding permitReply permitIn
+    → isPair (matterOf f .parties) a b ≡ true → permitCall f (encodeList l) a b ≡ yesOrNo (permitsPair (matterOf f) l (pair a b))
+unfolding permitCall permitIn
 permit-of-list f e l h a b p = rw (e, p, decode-encode (matterOf f .labels) (matterOf f .language) (matterOf f .longest) l h)
 
 -- permit on the bytes of the mined list is the permit table
 pub permit-of-mined : (f : List ℕ) → checkOf f ≡ Accepted → capOf (matterOf f .language) ≡ 1 → verdictOf (matterOf f) ≡ convertible
     → (a b : ℕ) → isPair (matterOf f .parties) a b ≡ true
-    → permitReply f (encodeList (plainList (minedList (matterOf f)))) a b ≡ yesOrNo (permitted (matterOf f) (pair a b))
+    → permitCall f (encodeList (plainList (minedList (matterOf f)))) a b ≡ yesOrNo (permitted (matterOf f) (pair a b))
 permit-of-mined f e cap v a b p =
     let q = pair-of (matterOf f .parties) a b p in
     permit-of-list f e (plainList (minedList (matterOf f))) (mined-legal (matterOf f) cap (accepted-limits f e .parties .1) v) a b p

@@ -7,7 +7,7 @@ use lib.ListN.{drop}
 use Rattle.lists.specs.Lists.{allOf, anyOf, flatMap}
 use Rattle.fields.specs.Numbers.{u16At}
 use Rattle.rule_bytes.specs.ListBytes.{encodeWord, encodeTerm}
-use Rattle.rule_bytes.specs.Reading.{wordAt, FitWord, FitTerm, TermAt, IsList}
+use Rattle.rule_bytes.specs.promises.Reading.{wordAt, FitWord, FitTerm, TermAt, IsList}
 use Rattle.rule_bytes.proofs.PlaceLaws.{Ahead, Entry, entry, no-more, word-next, term-ahead, list-ahead}
 
 and-true : (b : Bool) → (b && true) ≡ b
@@ -30,22 +30,28 @@ module _ (p : List ℕ → Bool) (b : List ℕ) (t : List (List ℕ)) (s : List 
 
   module _ (place left : ℕ) (met : Bool) (f : TermSoFar p b place left met t s) where
     pub meet-entry : 0 < left → Entry encodeWord FitWord b place left (f .rest) s
-    meet-entry h = entry encodeWord FitWord b place left (f .rest) s h (f .ahead)
+    meet-entry h = entry _ (f .ahead) h
 
-    pub meet-next : (h : 0 < left) (more : Bool) → more ≡ (met && p (meet-entry h .first)) → TermSoFar p b (wordAt b place .next) (left - 1) more t s
+    pub meet-next :
+        (h : 0 < left) (more : Bool) → more ≡ (met && p (meet-entry h .first))
+        → TermSoFar p b (wordAt b place .next) (left - 1) more t s
     unfolding allOf
     meet-next h more e =
         let n = meet-entry h in
         record {
           rest = n .rest;
           ahead = n .onward (wordAt b place .next) (word-next b place (n .first) (flatMap encodeWord (n .rest) ++ s) (n .bytes));
-          same = f .same ∙ ap (λ (w : List (List ℕ)). met && allOf p w) (n .split) ∙ and-swap met (p (n .first)) (allOf p (n .rest)) ∙ ap (λ (q : Bool). q && allOf p (n .rest)) (sym e);
+          same =
+              f .same
+              ∙ ap (λ (w : List (List ℕ)). met && allOf p w) (n .split)
+              ∙ and-swap met (p (n .first)) (allOf p (n .rest))
+              ∙ ap (λ (q : Bool). q && allOf p (n .rest)) (sym e);
         }
 
     pub meet-end : left ≡ 0 → (met ≡ allOf p t) × (drop place b ≡ s)
     unfolding allOf
     meet-end z =
-        let k = no-more encodeWord FitWord b place left (f .rest) s z (f .ahead) in
+        let k = no-more _ (f .ahead) z in
         (sym (f .same ∙ ap (λ (w : List (List ℕ)). met && allOf p w) (k .0) ∙ and-true met), k .1)
 
 -- a list of which no term so far passed q
@@ -54,19 +60,21 @@ pub record ListSoFar (q : List (List ℕ) → Bool) (b : List ℕ) (place left :
   pub ahead : Ahead encodeTerm FitTerm b place left rest []
   pub same : anyOf q l ≡ anyOf q rest
 
-module _ (q : List (List ℕ) → Bool) (b : List ℕ) (l : List (List (List ℕ))) where
-  pub list-start : (left : ℕ) → IsList b l → left ≡ u16At b 0 → ListSoFar q b 2 left l
-  list-start left h e = record { rest = l; ahead = rw e (list-ahead b l h); same = refl }
+module _ {q : List (List ℕ) → Bool} {b : List ℕ} {l : List (List (List ℕ))} where
+  pub list-start : {left : ℕ} → IsList b l → left ≡ u16At b 0 → ListSoFar q b 2 left l
+  list-start h e = record { rest = l; ahead = rw e (list-ahead b l h); same = refl }
 
-  module _ (place left : ℕ) (f : ListSoFar q b place left l) where
+  module _ {place left : ℕ} (f : ListSoFar q b place left l) where
     pub list-entry : 0 < left → Entry encodeTerm FitTerm b place left (f .rest) []
-    list-entry h = entry encodeTerm FitTerm b place left (f .rest) [] h (f .ahead)
+    list-entry h = entry _ (f .ahead) h
 
     module _ (h : 0 < left) where
       pub list-term : TermAt b place (list-entry h .first) (flatMap encodeTerm (list-entry h .rest) ++ [])
       list-term = record { bytes = list-entry h .bytes; fits = list-entry h .fits }
 
-      pub list-next : (next : ℕ) → drop next b ≡ flatMap encodeTerm (list-entry h .rest) ++ [] → q (list-entry h .first) ≡ false → ListSoFar q b next (left - 1) l
+      pub list-next :
+          (next : ℕ) → drop next b ≡ flatMap encodeTerm (list-entry h .rest) ++ [] → q (list-entry h .first) ≡ false
+          → ListSoFar q b next (left - 1) l
       unfolding anyOf
       list-next next k e =
           let n = list-entry h in
@@ -78,4 +86,4 @@ module _ (q : List (List ℕ) → Bool) (b : List ℕ) (l : List (List (List ℕ
 
     pub list-no : left ≡ 0 → anyOf q l ≡ false
     unfolding anyOf
-    list-no z = f .same ∙ ap (anyOf q) (no-more encodeTerm FitTerm b place left (f .rest) [] z (f .ahead) .0)
+    list-no z = f .same ∙ ap (anyOf q) (no-more _ (f .ahead) z .0)

@@ -10,15 +10,16 @@ use Rattle.lists.proofs.ListLaws.{any-same}
 use Rattle.rebac.specs.Matter.{Matter, pair}
 use Rattle.rebac.specs.Paths.{Graph, has}
 use Rattle.rebac.specs.Existence.{hasAll, permitsPair}
-use Rattle.rebac.specs.Options.{isSome}
+use Rattle.rebac.specs.promises.Options.{isSome}
 use Rattle.house_layout.specs.declared.reply.Refusal.the-variants.{RuleList, PartyPair}
-use Rattle.graph.specs.Archive.{Shows}
+use Rattle.graph.specs.promises.Archive.{Shows}
 use Rattle.graph.specs.declared.Archive.{Archive}
 use Rattle.paths.proofs.CallLaws.{shown-graph}
 use Rattle.fields.specs.Numbers.{Bytes}
 use Rattle.rule_bytes.specs.ListBytes.{decodeList}
-use Rattle.rule_bytes.specs.Reading.{IsList, SomeList}
-use Rattle.rules.specs.Permit.{saidPermit, yesOrNo, answerBy, permitIn, meetsTerm, meetsList}
+use Rattle.rule_bytes.specs.promises.Reading.{IsList, SomeList}
+use Rattle.rules.specs.Permit.{saidPermit, yesOrNo, answerBy, permitIn}
+use Rattle.rules.specs.promises.Meets.{meetsTerm, meetsList}
 use Rattle.graph.specs.Legal.{isPair}
 use Rattle.rules.specs.declared.call.PermitReply.{PermitReply}
 use Rattle.rules.specs.declared.call.PermitReply.the-variants.{Refused, Yes, No}
@@ -31,9 +32,9 @@ use Rattle.rebac.proofs.OptionLaws.{some-of, none-of}
 -- bytes that decode are those of a list that fits
 pub list-is : (labels language longest : ℕ) → labels ≤ 8 → longest ≤ 31 → (b : List ℕ) → Bytes b → (l : List (List (List ℕ)))
     → decodeList labels language longest b ≡ some l → IsList b l
-list-is labels language longest few short b h l e =
+list-is labels language longest bounded short b h l e =
     let k = encode-decode labels language longest b h l e in
-    record { bytes = sym (k .bytes); fits = list-legal-fits labels language longest few short l (k .legal) }
+    record { bytes = sym (k .bytes); fits = list-legal-fits labels language longest bounded short l (k .legal) }
 
 -- the list that the bytes are for an archive
 abbrev pub archiveList : Archive → List ℕ → Option (List (List (List ℕ)))
@@ -48,9 +49,9 @@ pub record Checked (a : Archive) (list : List ℕ) : Type 0 where
 pub checked : (M : Matter) (a : Archive) → Shows M a → (list : List ℕ) → Bytes list → isSome (archiveList a list) ≡ true → Checked a list
 checked M a h list bytes e =
     let o = some-of (archiveList a list) e in
-    let few : a .labels ≤ 8 = omega (arith, h .labels, h .limits .labels .1) in
+    let bounded : a .labels ≤ 8 = omega (arith, h .labels, h .limits .labels .1) in
     let short : a .longest ≤ 31 = omega (arith, h .longest, h .limits .longest .1) in
-    record { listed = o .0; decodes = o .1; is = list-is (a .labels) (a .language) (a .longest) few short list bytes (o .0) (o .1) }
+    record { listed = o .0; decodes = o .1; is = list-is (a .labels) (a .language) (a .longest) bounded short list bytes (o .0) (o .1) }
 
 pub checked-list : (M : Matter) (a : Archive) → Shows M a → (list : List ℕ) → Bytes list → isSome (archiveList a list) ≡ true
     → SomeList list

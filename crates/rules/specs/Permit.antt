@@ -3,18 +3,12 @@ use Prim.Native.Nat.{ℕ}
 use mathlib.Core.Bool.{Bool, true, false}
 use mathlib.Core.List.{List, [], _∷_}
 use mathlib.Core.Option.{Option, none, some}
-use Rattle.lists.specs.Lists.{allOf, anyOf}
-use Rattle.masks.specs.declared.Table.{Table}
 use Rattle.rebac.specs.Matter.{Matter, Pair, pair}
-use Rattle.rebac.specs.Paths.{has}
 use Rattle.rebac.specs.Existence.{permitsPair}
-use Rattle.house_file.specs.Check.{checkOf}
 use Rattle.house_layout.specs.Reply.{Said, refusal, values, numberOf}
 use Rattle.house_layout.specs.declared.reply.Refusal.the-variants.{RuleList, PartyPair}
-use Rattle.graph.specs.Archive.{matterOf}
 use Rattle.graph.specs.Legal.{isPair}
-use Rattle.graph.specs.Refusals.{unless, afterCheck}
-use Rattle.search.specs.Ask.{tableGraph}
+use Rattle.graph.specs.Refusals.{unless, overMatter}
 use Rattle.rule_bytes.specs.ListBytes.{decodeList}
 use Rattle.rules.specs.declared.call.PermitReply.{PermitReply}
 use Rattle.rules.specs.declared.call.PermitReply.the-variants.{Refused, Yes, No}
@@ -36,15 +30,10 @@ answerBy M p (some l) = yesOrNo (permitsPair M l p)
 
 -- the answer for an accepted file: 10, then 9, then yes or no
 unfoldable pub permitIn : Matter → List ℕ → ℕ → ℕ → PermitReply
-permitIn M list a b = unless Refused (isPair (M .parties) a b) PartyPair (answerBy M (pair a b) (decodeList (M .labels) (M .language) (M .longest) list))
+permitIn M list a b =
+    unless Refused (isPair (M .parties) a b) PartyPair
+    (answerBy M (pair a b) (decodeList (M .labels) (M .language) (M .longest) list))
 
 -- 01: "Permit: for a rule list and a pair, yes or no." For any bytes; the file's refusals come first
-unfoldable pub permitReply : List ℕ → List ℕ → ℕ → ℕ → PermitReply
-permitReply file list a b = afterCheck Refused (checkOf file) (permitIn (matterOf file) list a b)
-
--- over the masks of a graph: the pair has all words of a term; it meets a term of the list
-unfoldable pub meetsTerm : ℕ → Table → ℕ → ℕ → List (List ℕ) → Bool
-meetsTerm n g a b t = allOf (has (tableGraph n g) (pair a b)) t
-
-unfoldable pub meetsList : ℕ → Table → ℕ → ℕ → List (List (List ℕ)) → Bool
-meetsList n g a b l = anyOf (meetsTerm n g a b) l
+unfoldable pub permitCall : List ℕ → List ℕ → ℕ → ℕ → PermitReply
+permitCall file list a b = overMatter Refused file (λ M. permitIn M list a b)

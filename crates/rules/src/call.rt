@@ -1,12 +1,13 @@
 // The permit call: whether a rule list permits a pair.
 ghost use mathlib.Core.Path.{_≡_};
 ghost use mathlib.Core.List.{List};
-ghost use Prim.Native.Nat.{ℕ, _≤_};
+ghost use Prim.Native.Nat.{ℕ};
 ghost use lib.ListN.{drop};
-ghost use Rattle.rebac.specs.Matter.{Matter, IsPair, pair};
-ghost use Rattle.graph.specs.Archive.{Shows};
-ghost use Rattle.rule_bytes.specs.Reading.{TermAt, SomeTerm, IsList, SomeList};
-ghost use Rattle.rules.specs.Permit.{permitIn, permitReply, meetsTerm, meetsList};
+ghost use Rattle.rebac.specs.Matter.{Matter};
+ghost use Rattle.graph.specs.promises.Archive.{Shows};
+ghost use Rattle.rule_bytes.specs.promises.Reading.{TermAt, IsList};
+ghost use Rattle.rules.specs.Permit.{permitIn, permitCall};
+ghost use Rattle.rules.specs.promises.Meets.{meetsTerm, meetsList, TermQuery, ListQuery};
 use fields::u16_at;
 use graph::Archive;
 use house_layout::Check;
@@ -37,8 +38,9 @@ pub fn meets_term(
     first: usize,
     second: usize,
 ) -> TermMet
-    requires { ⌜ (n ≤ 32) × (IsPair n (pair first second) × SomeTerm (now list) at) ⌝ }
-    ensures { λ r. ⌜ ((t : List (List ℕ)) (s : List ℕ) → TermAt (now (list .entry)) at t s → (r .met ≡ meetsTerm n g first second t) × (drop (r .next) (now (list .entry)) ≡ s)) ⌝ }
+    requires { ⌜ TermQuery n first second (now list) at ⌝ }
+    ensures { λ r. ⌜ ((t : List (List ℕ)) (s : List ℕ) → TermAt (now (list .entry)) at t s
+        → (r .met ≡ meetsTerm n g first second t) × (drop (r .next) (now (list .entry)) ≡ s)) ⌝ }
 {
     let mut met = true;
     let mut left = u16_at(list, at);
@@ -57,7 +59,7 @@ pub fn meets_term(
 
 // Whether a checked list permits the pair.
 pub fn meets_list(g: Table, n: usize, list: &[u8], first: usize, second: usize) -> bool
-    requires { ⌜ (n ≤ 32) × (IsPair n (pair first second) × SomeList (now list)) ⌝ }
+    requires { ⌜ ListQuery n first second (now list) ⌝ }
     ensures { λ r. ⌜ ((l : List (List (List ℕ))) → IsList (now (list .entry)) l → r ≡ meetsList n g first second l) ⌝ }
 {
     let mut left = u16_at(list, 0);
@@ -93,8 +95,8 @@ fn permit_in(a: Archive, list: &[u8], first: usize, second: usize) -> PermitRepl
 }
 
 // 01's permit call, for any bytes and any two numbers.
-pub fn permit(file: &[u8], list: &[u8], first: usize, second: usize) -> PermitReply
-    ensures { λ r. ⌜ r ≡ permitReply (now (file .entry)) (now (list .entry)) first second ⌝ }
+pub fn permit_call(file: &[u8], list: &[u8], first: usize, second: usize) -> PermitReply
+    ensures { λ r. ⌜ r ≡ permitCall (now (file .entry)) (now (list .entry)) first second ⌝ }
 {
     let r = graph::load(file);
     let reply = r.reply;

@@ -5,4 +5,4 @@ pub use call::PermitReply;
 pub use call::TermMet;
 pub use call::meets_list;
 pub use call::meets_term;
-pub use call::permit;
+pub use call::permit_call;

@@ -1,4 +1,5 @@
 pub mod SearchLaws
 pub mod WalkLaws
-pub mod AskLaws
+pub mod TurnLaws
+pub mod PairSearchLaws
 pub mod ValueLaws

@@ -14,20 +14,23 @@ use lib.ListN.{getD, drop, length, set, length-set, length-take, drop-of-length-
 use lib.Seq.{drop-cons, getD-take, getD-set-same, getD-set-other}
 use borrow.Author.Tests.{eq-eqb, ne-eqb, ltb-true, ltb-false}
 use Rattle.lists.specs.Lists.{filterBy, member, range, upFrom}
-use Rattle.lists.specs.Order.{headOf}
+use Rattle.lists.specs.Order.{firstElement}
 use Rattle.lists.proofs.Cases.{by-test, both}
 use Rattle.lists.proofs.ListLaws.{filter-in, filter-out, member-in, member-out, range-in}
-use Rattle.masks.specs.Mask.{testBit, withBit}
-use Rattle.masks.specs.Table.{maskAt}
+use Rattle.masks.specs.promises.Mask.{testBit, withBit}
+use Rattle.masks.specs.promises.Table.{maskAt}
 use Rattle.masks.specs.declared.Table.{Table}
 use Rattle.masks.proofs.BitLaws.{test-with-same, test-with-other}
 use Rattle.rebac.specs.Paths.{routes}
-use Rattle.rebac.specs.Forms.{Place, from}
-use Rattle.rebac.specs.Options.{given, isSome, orElse, firstSome}
-use Rattle.rebac.specs.Marked.{onto, Marks, leastMarked}
+use Rattle.rebac.specs.promises.Forms.{Place}
+use Rattle.rebac.specs.Options.{given}
+use Rattle.rebac.specs.promises.Options.{isSome, orElse, firstSome}
+use Rattle.rebac.specs.promises.Marked.{prepend, PartyMarks, leastMarked}
 use Rattle.rebac.proofs.MarkedLaws.{marked-least, least-last, least-seen}
 use Rattle.search.specs.Word.{symbolsIn}
-use Rattle.search.specs.Search.{placeOn, pickPlace, placeAt, maskGraph, formOf, searchFrom, placesFrom, visitAll, FoundAs}
+use Rattle.search.specs.promises.WordValues.{Short}
+use Rattle.search.specs.promises.Search.{placeOn, pickPlace, placeAt, maskGraph, formOf, searchFrom, placesFrom, visitAll, FoundAs}
+use Rattle.search.specs.promises.Search.{PartyQuery}
 use Rattle.search.specs.declared.word.Word.{Word}
 use Rattle.search.specs.declared.search.Found.{Found}
 
@@ -35,7 +38,7 @@ use Rattle.search.specs.declared.search.Found.{Found}
 visitedList : ℕ → ℕ → List ℕ
 visitedList n visited = filterBy (testBit visited) (range n)
 
-marks-list : (n visited : ℕ) → Marks n (λ c v. testBit v c) visited (visitedList n visited)
+marks-list : (n visited : ℕ) → PartyMarks n (λ c v. testBit v c) visited (visitedList n visited)
 unfolding visitedList
 marks-list n visited c h =
     by-test (testBit visited c)
@@ -51,24 +54,31 @@ mark-law c d v =
     (λ q. rw (ne-eqb c d q) (test-with-other v d c q))
 
 module _ (n : ℕ) (t : Table) (visited u target : ℕ) where
-  is-routes : (xs : List Place) → searchFrom n t visited u target xs ≡ headOf (routes (maskGraph n t) (visitedList n visited) u target xs)
+  is-routes : (xs : List Place)
+      → searchFrom n t visited u target xs ≡ firstElement (routes (maskGraph n t) (visitedList n visited) u target xs)
   unfolding searchFrom
-  is-routes xs = marked-least (maskGraph n t) (λ c v. testBit v c) (λ c v. withBit v c) (λ c d v h k. mark-law c d v) xs visited (visitedList n visited) u target (marks-list n visited)
+  is-routes xs =
+      marked-least (maskGraph n t) (λ c v. testBit v c) (λ c v. withBit v c) (λ c d v h k. mark-law c d v)
+      xs visited (visitedList n visited) u target (marks-list n visited)
 
   -- the last step
-  pub search-last : target < n → (x : Place) → searchFrom n t visited u target (x ∷ []) ≡ given (not (testBit visited target) && placeOn x (maskAt t u target)) (some (target ∷ []))
+  pub search-last : target < n → (x : Place) → searchFrom n t visited u target (x ∷ [])
+      ≡ given (not (testBit visited target) && placeOn x (maskAt t u target)) (some (target ∷ []))
   search-last h x =
       is-routes (x ∷ []) ∙ least-last (maskGraph n t) (visitedList n visited) u target x h
       ∙ ap (λ (b : Bool). given (not b && placeOn x (maskAt t u target)) (some (target ∷ []))) (sym (marks-list n visited target h))
 
   -- the target was passed already
-  pub search-passed : target < n → testBit visited target ≡ true → (x : Place) (xs : List Place) → searchFrom n t visited u target (x ∷ xs) ≡ none
+  pub search-passed : target < n → testBit visited target ≡ true → (x : Place) (xs : List Place)
+      → searchFrom n t visited u target (x ∷ xs) ≡ none
   search-passed h e x xs =
-      is-routes (x ∷ xs) ∙ least-seen (maskGraph n t) (visitedList n visited) u target x xs (member-out target _ (sym (marks-list n visited target h) ∙ e))
+      is-routes (x ∷ xs)
+      ∙ least-seen (maskGraph n t) (visitedList n visited) u target x xs (member-out target _ (sym (marks-list n visited target h) ∙ e))
 
 -- what a candidate gives
 unfoldable pub through : ℕ → Table → ℕ → ℕ → ℕ → Place → List Place → ℕ → Option (List ℕ)
-through n t visited u target x xs c = given (not (testBit visited c) && placeOn x (maskAt t u c)) (onto c (searchFrom n t (withBit visited c) c target xs))
+through n t visited u target x xs c =
+    given (not (testBit visited c) && placeOn x (maskAt t u c)) (prepend c (searchFrom n t (withBit visited c) c target xs))
 
 module _ (n : ℕ) (t : Table) (visited u target : ℕ) (x : Place) (xs : List Place) where
   -- the candidates from v on
@@ -106,12 +116,14 @@ module _ (n : ℕ) (t : Table) (visited u target : ℕ) (x : Place) (xs : List P
   unfolding through
   through-lost c e = rw e (by-test (not (testBit visited c) && placeOn x (maskAt t u c)) (λ q. rw q) (λ q. rw q))
 
-  pub through-on : (c : ℕ) → testBit visited c ≡ false → placeOn x (maskAt t u c) ≡ true → through n t visited u target x xs c ≡ onto c (searchFrom n t (withBit visited c) c target xs)
+  pub through-on : (c : ℕ) → testBit visited c ≡ false → placeOn x (maskAt t u c) ≡ true
+      → through n t visited u target x xs c ≡ prepend c (searchFrom n t (withBit visited c) c target xs)
   unfolding through
   through-on c e f = rw (e, f)
 
 -- while places remain the target itself leads nowhere
-pub through-target : (n : ℕ) (t : Table) (visited u target : ℕ) (x y : Place) (xs ys : List Place) → xs ≡ y ∷ ys → target < n → through n t visited u target x xs target ≡ none
+pub through-target : (n : ℕ) (t : Table) (visited u target : ℕ) (x y : Place) (xs ys : List Place) → xs ≡ y ∷ ys → target < n
+    → through n t visited u target x xs target ≡ none
 unfolding through
 through-target n t visited u target x y xs ys e h =
     rw (e, search-passed n t (withBit visited target) target target h (test-with-same visited target) y ys)
@@ -122,8 +134,13 @@ formed : (fixed at s : ℕ) (w : List ℕ) → formOf (fixed - at) (s ∷ w) ≡
 unfolding formOf
 formed fixed at s w =
     by-test (ltb at fixed)
-    (λ q. let h : at < fixed = ltb-out q in let e : fixed - at ≡ suc (fixed - (at + 1)) = omega arith in rw (q, e))
-    (λ q. let h : fixed ≤ at = ltb-not q in let e : fixed - at ≡ 0 = omega arith in let d : fixed - (at + 1) ≡ 0 = omega arith in rw (q, e, d))
+    (λ q. let h : at < fixed = ltb-out q in
+    let e : fixed - at ≡ suc (fixed - (at + 1)) = omega arith in
+    rw (q, e))
+    (λ q. let h : fixed ≤ at = ltb-not q in
+    let e : fixed - at ≡ 0 = omega arith in
+    let d : fixed - (at + 1) ≡ 0 = omega arith in
+    rw (q, e, d))
   where
     ltb-out : ltb at fixed ≡ true → at < fixed
     ltb-out = ltb-true at fixed
@@ -131,21 +148,34 @@ formed fixed at s w =
     ltb-not : ltb at fixed ≡ false → fixed ≤ at
     ltb-not = ltb-false at fixed
 
-pub places-cons : (w : Word) (fixed at : ℕ) → at < w .len → w .len ≤ length (w .symbols) → placesFrom w fixed at ≡ placeAt w fixed at ∷ placesFrom w fixed (at + 1)
-places-cons w fixed at h b =
-    let n : length (symbolsIn w) ≡ w .len = length-take (w .len) (w .symbols) ∙ omega arith in
-    let d : drop at (symbolsIn w) ≡ getD (w .symbols) at 0 ∷ drop (at + 1) (symbolsIn w) =
-    rw add-one (drop-cons (symbolsIn w) at 0 (omega arith) ∙ ap (λ (x : ℕ). x ∷ drop (suc at) (symbolsIn w)) (getD-take (w .len) (w .symbols) at 0 h)) in
-    ap (formOf (fixed - at)) d ∙ formed fixed at (getD (w .symbols) at 0) (drop (at + 1) (symbolsIn w))
-
 pub symbols-length : (w : Word) → w .len ≤ length (w .symbols) → length (symbolsIn w) ≡ w .len
 symbols-length w b = length-take (w .len) (w .symbols) ∙ omega arith
+
+pub places-cons : (w : Word) (fixed at : ℕ) → at < w .len → w .len ≤ length (w .symbols)
+    → placesFrom w fixed at ≡ placeAt w fixed at ∷ placesFrom w fixed (at + 1)
+places-cons w fixed at h b =
+    let n = symbols-length w b in
+    let s : ℕ = getD (w .symbols) at 0 in
+    let d : drop at (symbolsIn w) ≡ s ∷ drop (at + 1) (symbolsIn w) =
+    rw add-one
+    (drop-cons (symbolsIn w) at 0 (omega arith)
+    ∙ ap (λ (x : ℕ). x ∷ drop (suc at) (symbolsIn w)) (getD-take (w .len) (w .symbols) at 0 h)) in
+    ap (formOf (fixed - at)) d ∙ formed fixed at s (drop (at + 1) (symbolsIn w))
 
 pub places-end : (w : Word) (fixed at : ℕ) → w .len ≤ at → w .len ≤ length (w .symbols) → placesFrom w fixed at ≡ []
 unfolding formOf
 places-end w fixed at h b =
-    let n : length (symbolsIn w) ≡ w .len = length-take (w .len) (w .symbols) ∙ omega arith in
+    let n = symbols-length w b in
     ap (formOf (fixed - at)) (drop-of-length-le (symbolsIn w) {i = at} (omega arith))
+
+pub short-fits : {w : Word} → Short w → w .len ≤ length (w .symbols)
+short-fits s = omega arith
+
+-- at the last place there is one place left
+pub places-last : {w : Word} → Short w → (fixed at : ℕ) → at + 1 ≡ w .len → placesFrom w fixed at ≡ placeAt w fixed at ∷ []
+places-last {w} s fixed at e =
+    places-cons w fixed at (omega arith) (short-fits s)
+    ∙ ap (λ (xs : List Place). placeAt w fixed at ∷ xs) (places-end w fixed (at + 1) (omega arith) (short-fits s))
 
 -- what was found is handed on, one party more in front
 pub found-none : (at visited : ℕ) (o : Option (List ℕ)) (r : Found) → o ≡ none → r .found ≡ false → FoundAs at visited o r
@@ -175,7 +205,8 @@ found-onto at visited c l r s b h f v p =
         getD-set-other (r .parties) (at + 1) (at + suc (suc i)) c 0 (λ e. omega arith)
         ∙ ap (λ (j : ℕ). getD (r .parties) j 0) (omega arith) ∙ h .1 .1 .1 i (omega arith)
 
-pub found-last : (at visited target : ℕ) (r : Found) → r .found ≡ true → r .visited ≡ withBit visited target → length (r .parties) ≡ 32 → getD (r .parties) (at + 1) 0 ≡ target → FoundAs at visited (some (target ∷ [])) r
+pub found-last : (at visited target : ℕ) (r : Found) → r .found ≡ true → r .visited ≡ withBit visited target
+    → length (r .parties) ≡ 32 → getD (r .parties) (at + 1) 0 ≡ target → FoundAs at visited (some (target ∷ [])) r
 unfolding visitAll
 found-last at visited target r f v n p = (f, (v, (n, written)))
   where
@@ -183,17 +214,21 @@ found-last at visited target r f v n p = (f, (v, (n, written)))
     written zero k = p
     written (suc i) k = absurd (omega arith)
 
--- beyond the candidate v: by a search, or by the last step
-module _ (n : ℕ) (t : Table) (w : Word) (fixed at visited target v more : ℕ) (m : more ≡ withBit visited v) (f r : Found) (e : f ≡ r) where
-  abbrev Beyond : Type 0
-  Beyond = FoundAs (at + 1) (withBit visited v) (searchFrom n t (withBit visited v) v target (placesFrom w fixed (at + 1))) f
+-- what was found beyond the candidate v
+abbrev pub Beyond : Word → ℕ → ℕ → ℕ → ℕ → ℕ → Table → ℕ → Found → Type 0
+Beyond w fixed at n target visited t v f =
+    FoundAs (at + 1) (withBit visited v) (searchFrom n t (withBit visited v) v target (placesFrom w fixed (at + 1))) f
 
-  pub beyond-search : FoundAs (at + 1) more (searchFrom n t more v target (placesFrom w fixed (at + 1))) r → Beyond
+-- by a search, or by the last step
+module _ {w : Word} {at n u target : ℕ} (p : PartyQuery w at n u target) (t : Table) (fixed visited v : ℕ) {more : ℕ}
+    (m : more ≡ withBit visited v) {f r : Found} (e : f ≡ r) where
+  pub beyond-search : FoundAs (at + 1) more (searchFrom n t more v target (placesFrom w fixed (at + 1))) r
+      → Beyond w fixed at n target visited t v f
   beyond-search h = rw (e, ← m) h
 
-  pub beyond-last : at + 2 ≡ w .len → w .len ≤ length (w .symbols) → target < n
-      → FoundAs (at + 1) more (given (not (testBit more target) && placeOn (placeAt w fixed (at + 1)) (maskAt t v target)) (some (target ∷ []))) r → Beyond
-  beyond-last l b k h =
-      let q : placesFrom w fixed (at + 1) ≡ placeAt w fixed (at + 1) ∷ [] =
-      places-cons w fixed (at + 1) (omega arith) b ∙ ap (λ (xs : List Place). placeAt w fixed (at + 1) ∷ xs) (places-end w fixed (at + 1 + 1) (omega arith) b) in
-      rw (e, ← m, q, search-last n t more v target k (placeAt w fixed (at + 1))) h
+  pub beyond-last : at + 2 ≡ w .len
+      → FoundAs (at + 1) more
+      (given (not (testBit more target) && placeOn (placeAt w fixed (at + 1)) (maskAt t v target)) (some (target ∷ []))) r
+      → Beyond w fixed at n target visited t v f
+  beyond-last l h =
+      rw (e, ← m, places-last (p .short) fixed (at + 1) (omega arith), search-last n t more v target (p .end) (placeAt w fixed (at + 1))) h

@@ -8,7 +8,8 @@ use native.Mathlib.Omega.{arith}
 use lib.ListN.{length, getD, replicate, length-append, length-replicate, List·getD-append}
 use lib.Seq.{take-append-seam, getD-append-add}
 use Rattle.masks.proofs.TableLaws.{getD-zeros}
-use Rattle.search.specs.Word.{symbolsIn, wordOf, IsValue, Carries}
+use Rattle.search.specs.Word.{symbolsIn, Carries}
+use Rattle.search.specs.promises.WordValues.{wordOf, IsValue}
 
 pub word-symbols : (w : List ℕ) → symbolsIn (wordOf w) ≡ w
 word-symbols w = take-append-seam w (replicate (31 - length w) 0)

@@ -13,15 +13,16 @@ use lib.Count.{trailingZeros, under}
 use lib.Pow.{pow-pos, ones-lt, ones-split, high, shr-shr}
 use borrow.Author.Tests.{eq-eqb, ne-eqb}
 use Rattle.lists.proofs.Cases.{by-test, both}
-use Rattle.masks.specs.Mask.{testBit, withBit}
-use Rattle.masks.specs.Table.{noRow}
+use Rattle.masks.specs.promises.Mask.{testBit, withBit}
+use Rattle.masks.specs.promises.Table.{noRow}
 use Rattle.masks.specs.declared.Table.{Table}
 use Rattle.masks.proofs.BitLaws.{test-with-same, test-with-other}
-use Rattle.rebac.specs.Forms.{Place}
-use Rattle.rebac.specs.Marked.{leastMarked}
-use Rattle.search.specs.Search.{searchFrom}
-use Rattle.search.specs.Walk.{NoStep, Within, Covers}
-use Rattle.search.proofs.SearchLaws.{through, onwards, search-start, search-passed, onwards-end, onwards-skip, through-visited, through-not, through-lost}
+use Rattle.rebac.specs.promises.Forms.{Place}
+use Rattle.rebac.specs.promises.Marked.{leastMarked}
+use Rattle.search.specs.promises.Search.{searchFrom}
+use Rattle.search.specs.promises.Walk.{NoStep, Within, Covers}
+use Rattle.search.proofs.SearchLaws.{through, onwards, search-start, search-passed, onwards-end, onwards-skip}
+use Rattle.search.proofs.SearchLaws.{through-visited, through-not, through-lost}
 
 -- one party more is passed
 pub within-with : (visited more k : ℕ) → Within visited more → Within visited (withBit more k)
@@ -30,7 +31,8 @@ within-with visited more k h c e =
 
 module _ (n : ℕ) (t : Table) (target : ℕ) (xs : List Place) (visited : ℕ) where
   -- where no candidate leads on the search finds nothing
-  none-through : (more u : ℕ) (x : Place) → ((c : ℕ) → c < n → through n t more u target x xs c ≡ none) → (k v : ℕ) → v + k ≡ n → onwards n t more u target x xs v ≡ none
+  none-through : (more u : ℕ) (x : Place) → ((c : ℕ) → c < n → through n t more u target x xs c ≡ none)
+      → (k v : ℕ) → v + k ≡ n → onwards n t more u target x xs v ≡ none
   none-through more u x h zero v e = onwards-end n t more u target x xs v (omega arith)
   none-through more u x h (suc k) v e =
       onwards-skip n t more u target x xs v (omega arith) (h v (omega arith)) ∙ none-through more u x h k (v + 1) (omega arith)
@@ -54,7 +56,8 @@ module _ (n : ℕ) (t : Table) (target : ℕ) (xs : List Place) (visited : ℕ) 
       (λ q. h v (omega (arith, q)) (sym (test-with-other mask k v q) ∙ e))
 
   pub covers-without : (mask k : ℕ) → Covers n t target xs visited mask k
-      → ((more : ℕ) → Within visited more → testBit more k ≡ false → searchFrom n t (withBit more k) k target xs ≡ none) → Covers n t target xs visited mask (k + 1)
+      → ((more : ℕ) → Within visited more → testBit more k ≡ false → searchFrom n t (withBit more k) k target xs ≡ none)
+      → Covers n t target xs visited mask (k + 1)
   covers-without mask k h s v l e more p o =
       by-cases (ℕ-discrete v k) (λ q. rw q (s more p (rw q at o))) (λ q. h v (omega (arith, q)) e more p o)
 
@@ -65,8 +68,10 @@ covers-end n t target visited v l e more p o =
     by-cases (ℕ-discrete v target) (λ q. both (test-with-same 0 target) (rw q at e)) (λ q. rw (ne-eqb v target q))
 
 -- the target has none while places are left
-pub target-lost : (n : ℕ) (t : Table) (target : ℕ) (x : Place) (xs : List Place) → target < n → (visited : ℕ) → searchFrom n t (withBit visited target) target target (x ∷ xs) ≡ none
-target-lost n t target x xs h visited = search-passed n t (withBit visited target) target target h (test-with-same visited target) x xs
+pub target-lost : (n : ℕ) (t : Table) (target : ℕ) (x : Place) (xs : List Place) → target < n → (visited : ℕ)
+    → searchFrom n t (withBit visited target) target target (x ∷ xs) ≡ none
+target-lost n t target x xs h visited =
+    search-passed n t (withBit visited target) target target h (test-with-same visited target) x xs
 
 -- a mask of w ones has each place below w
 pub ones-bit : (w k : ℕ) → k < w → testBit (2 ^ w - 1) k ≡ true
@@ -76,7 +81,9 @@ ones-bit w k h =
     let p : 0 < 2 ^ (w - k - 1) = pow-pos (w - k - 1) in
     let s : 2 ^ suc (w - k - 1) ≡ 2 ^ (w - k - 1) * 2 = pow-suc 2 (w - k - 1) in
     let q : (2 ^ w - 1) / 2 ^ k ≡ 2 ^ suc (w - k - 1) - 1 =
-    ap (λ (x : ℕ). (2 ^ x - 1) / 2 ^ k) d ∙ ap (λ (x : ℕ). x / 2 ^ k) (ones-split (suc (w - k - 1)) k) ∙ high (2 ^ suc (w - k - 1) - 1) k (ones-lt k) in
+    ap (λ (x : ℕ). (2 ^ x - 1) / 2 ^ k) d
+    ∙ ap (λ (x : ℕ). x / 2 ^ k) (ones-split (suc (w - k - 1)) k)
+    ∙ high (2 ^ suc (w - k - 1) - 1) k (ones-lt k) in
     eq-eqb _ 1 (ap (λ (x : ℕ). x % 2) q ∙ omega arith)
 
 -- the places of a mask below its trailing zeros are clear
@@ -85,7 +92,8 @@ unfolding trailingZeros
 zeros-off zero n i h = absurd (omega arith)
 zeros-off (suc k) n i h = go (n % 2) refl i h (λ j. zeros-off k (n / 2) j)
   where
-    go : (r : ℕ) → n % 2 ≡ r → (i : ℕ) → i < under r (trailingZeros k (n / 2)) → ((j : ℕ) → j < trailingZeros k (n / 2) → n / 2 / 2 ^ j % 2 ≡ 0) → n / 2 ^ i % 2 ≡ 0
+    go : (r : ℕ) → n % 2 ≡ r → (i : ℕ) → i < under r (trailingZeros k (n / 2))
+        → ((j : ℕ) → j < trailingZeros k (n / 2) → n / 2 / 2 ^ j % 2 ≡ 0) → n / 2 ^ i % 2 ≡ 0
     go zero e zero l ih = rw div-one e
     go zero e (suc i) l ih = ap (λ (x : ℕ). x % 2) (ap (λ (j : ℕ). n / 2 ^ j) (omega arith) ∙ sym (shr-shr n 1 i)) ∙ ih i (omega arith)
     go (suc r) e i l ih = absurd (omega arith)
@@ -95,5 +103,6 @@ unfolding testBit
 skipped-off k mask c j l h =
     let d : c + (j - c) ≡ j = omega arith in
     let z : mask / 2 ^ j % 2 ≡ 0 =
-    ap (λ (x : ℕ). x % 2) (ap (λ (i : ℕ). mask / 2 ^ i) (sym d) ∙ sym (shr-shr mask c (j - c))) ∙ zeros-off k (mask / 2 ^ c) (j - c) (omega arith) in
+    ap (λ (x : ℕ). x % 2) (ap (λ (i : ℕ). mask / 2 ^ i) (sym d) ∙ sym (shr-shr mask c (j - c)))
+    ∙ zeros-off k (mask / 2 ^ c) (j - c) (omega arith) in
     rw z

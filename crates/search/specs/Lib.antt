@@ -1,4 +1,2 @@
 pub mod Word
-pub mod Search
-pub mod Walk
-pub mod Ask
+pub mod promises

@@ -3,13 +3,14 @@ ghost use mathlib.Core.Path.{_≡_};
 ghost use mathlib.Core.Bool.{false, not, _&&_};
 ghost use mathlib.Core.List.{_∷_, []};
 ghost use mathlib.Core.Option.{some};
-ghost use Prim.Native.Nat.{_+_, _-_, _<_};
-ghost use Rattle.masks.specs.Mask.{testBit};
+ghost use Prim.Native.Nat.{_+_, _<_};
+ghost use Rattle.masks.specs.promises.Mask.{testBit};
 ghost use Rattle.rebac.specs.Options.{given};
-ghost use Rattle.search.specs.Word.{Short};
-ghost use Rattle.search.specs.Search.{placeAt, placeOn, placesFrom, searchFrom, FoundAs, Asked};
+ghost use Rattle.search.specs.promises.WordValues.{Short};
+ghost use Rattle.search.specs.promises.Search.{placeAt, placeOn, placesFrom, searchFrom, FoundAs, PartyQuery, LastStepQuery};
 use crate::walk::walkable;
 use crate::word::Word;
+use limits::MOST_PARTIES;
 use masks::Table;
 
 // What a search found: whether there is a path, its parties as a mask, and its parties in order from place 0.
@@ -17,7 +18,7 @@ use masks::Table;
 pub struct Found {
     pub found: bool,
     pub visited: u32,
-    pub parties: [u8; 32],
+    pub parties: [u8; MOST_PARTIES],
     pub tried: u32,
 }
 
@@ -27,7 +28,7 @@ pub fn none(tried: u32) -> Found
     Found {
         found: false,
         visited: 0,
-        parties: [0u8; 32],
+        parties: [0u8; MOST_PARTIES],
         tried,
     }
 }
@@ -46,12 +47,13 @@ pub fn allows(w: Word, fixed: usize, at: usize, mask: u32) -> bool
 
 // The last step, to the target itself.
 fn last_step(w: Word, fixed: usize, at: usize, mask: u32, target: u32, visited: u32) -> Found
-    requires { ⌜ Short w × ((at < w .len) × (target < 32)) ⌝ }
-    ensures { λ r. ⌜ FoundAs at visited (given (not (testBit visited target) && placeOn (placeAt w fixed at) mask) (some (target ∷ []))) r ⌝ }
+    requires { ⌜ LastStepQuery w at target ⌝ }
+    ensures { λ r. ⌜ FoundAs at visited
+        (given (not (testBit visited target) && placeOn (placeAt w fixed at) mask) (some (target ∷ []))) r ⌝ }
 {
     if (visited >> target) & 1 == 0 {
         if allows(w, fixed, at, mask) {
-            let mut parties = [0u8; 32];
+            let mut parties = [0u8; MOST_PARTIES];
             parties[at + 1] = target as u8;
             return Found {
                 found: true,
@@ -75,7 +77,7 @@ pub fn party_search(
     target: usize,
     visited: u32,
 ) -> Found
-    requires { ⌜ Asked w at n u target ⌝ }
+    requires { ⌜ PartyQuery w at n u target ⌝ }
     ensures { λ r. ⌜ FoundAs at visited (searchFrom n g visited u target (placesFrom w fixed at)) r ⌝ }
 {
     let len = w.len;
@@ -87,7 +89,8 @@ pub fn party_search(
 }
 
 // The candidates after party u in ascending order, and from each to the party beyond. The target ends a path, so it is no candidate here.
-// Once those that failed have cost 16 parties for each place left, beside which a look at walks is cheap, a candidate with no walk onward is skipped.
+// Once those that failed have cost 16 parties for each place left, beside which a look at walks is cheap, a candidate with no walk
+// onward is skipped.
 pub fn candidate_search(
     g: Table,
     w: Word,
@@ -98,7 +101,7 @@ pub fn candidate_search(
     target: usize,
     visited: u32,
 ) -> Found
-    requires { ⌜ (at + 1 < w .len) × Asked w at n u target ⌝ }
+    requires { ⌜ (at + 1 < w .len) × PartyQuery w at n u target ⌝ }
     ensures { λ r. ⌜ FoundAs at visited (searchFrom n g visited u target (placesFrom w fixed at)) r ⌝ }
 {
     let len = w.len;

@@ -1,10 +1,9 @@
-// Walks past the visited parties, in which the others may repeat: where the rest of a word cannot be walked to the target it has no path there.
+// Walks past the visited parties, in which the others may repeat: where the rest of a word cannot be walked to the target it has no
+// path there.
 ghost use mathlib.Core.Path.{_≡_};
 ghost use mathlib.Core.Bool.{false};
-ghost use Prim.Native.Nat.{_+_, _≤_, _<_};
-ghost use Rattle.search.specs.Word.{Short};
-ghost use Rattle.search.specs.Search.{placeAt, placesFrom};
-ghost use Rattle.search.specs.Walk.{NoStep, Covers};
+ghost use Rattle.search.specs.promises.Search.{placeAt, placesFrom};
+ghost use Rattle.search.specs.promises.Walk.{NoStep, Covers, StepQuery, PartiesQuery, WalkQuery};
 use crate::search::allows;
 use crate::word::Word;
 use masks::Row;
@@ -12,7 +11,7 @@ use masks::Table;
 
 // Whether the party of this row has a step at place `at` to a candidate of the mask. Each turn goes on to the mask's next candidate.
 fn steps(row: Row, w: Word, fixed: usize, at: usize, n: usize, mask: u32) -> bool
-    requires { ⌜ Short w × ((at < w .len) × (n ≤ 32)) ⌝ }
+    requires { ⌜ StepQuery w at n ⌝ }
     ensures { λ r. ⌜ (r ≡ false → NoStep (placeAt w fixed at) row mask n n) ⌝ }
 {
     let mut c: usize = 0;
@@ -39,7 +38,7 @@ fn parties_before(
     visited: u32,
     mask: u32,
 ) -> u32
-    requires { ⌜ Short w × ((at < w .len) × ((n ≤ 32) × ((target < n) × Covers n g target (placesFrom w fixed (at + 1)) visited mask n))) ⌝ }
+    requires { ⌜ PartiesQuery w fixed at n target visited g mask ⌝ }
     ensures { λ r. ⌜ Covers n g target (placesFrom w fixed at) visited r n ⌝ }
 {
     let mut parties: u32 = 0;
@@ -68,7 +67,7 @@ pub fn walkable(
     target: usize,
     visited: u32,
 ) -> u32
-    requires { ⌜ Short w × ((n ≤ 32) × ((target < n) × (from ≤ w .len))) ⌝ }
+    requires { ⌜ WalkQuery w from n target ⌝ }
     ensures { λ r. ⌜ Covers n g target (placesFrom w fixed from) visited r n ⌝ }
 {
     let mut mask = masks::with(0, target as u32);

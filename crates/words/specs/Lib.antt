@@ -1,1 +1,1 @@
-pub mod Next
+pub mod promises

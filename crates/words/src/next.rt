@@ -1,16 +1,17 @@
 // The next word of a pair, by searches: never by trying words one after another.
 ghost use mathlib.Core.Path.{_≡_};
-ghost use mathlib.Core.Bool.{true, false};
-ghost use mathlib.Core.List.{List, [], _++_};
-ghost use mathlib.Core.Option.{some};
-ghost use Prim.Native.Nat.{ℕ, suc, _+_, _-_, _≤_, _<_};
-ghost use lib.ListN.{length, replicate, set};
-ghost use Rattle.rebac.specs.Matter.{pair};
-ghost use Rattle.rebac.specs.Forms.{fixedThenFree, findForm, leastSymbol, complete, nextSameLength, firstLonger, searchNext};
-ghost use Rattle.search.specs.Word.{symbolsIn, Short};
-ghost use Rattle.search.specs.declared.word.Word.{Word as WordValue};
-ghost use Rattle.search.specs.Ask.{Query, tableGraph};
-ghost use Rattle.words.specs.Next.{Alphabet, NextAs, Places, completeZeros};
+ghost use mathlib.Core.Bool.{false};
+ghost use mathlib.Core.List.{[]};
+ghost use Prim.Native.Nat.{suc, _-_, _≤_, _<_};
+ghost use lib.ListN.{replicate};
+ghost use Rattle.limits.specs.Limits.{wordCapacity};
+ghost use Rattle.rebac.specs.promises.Forms.{nextSameLength, firstLonger, searchNext};
+ghost use Rattle.search.specs.Word.{symbolsIn};
+ghost use Rattle.search.specs.promises.WordValues.{Short};
+ghost use Rattle.search.specs.promises.PairSearch.{PairQuery};
+ghost use Rattle.words.specs.promises.Next.{SymbolQuery, LongerQuery, NextQuery, SymbolPut, LeastPut, ZerosFilled, Completed, NextBy};
+use limits::LAST_SYMBOL;
+use limits::WORD_CAPACITY;
 use masks::Table;
 use search::Word;
 use search::search_pair;
@@ -32,8 +33,8 @@ fn nothing(w: Word) -> Next
 
 // The word with another symbol at a place.
 fn put_symbol(mut w: Word, at: usize, s: u8) -> Word
-    requires { ⌜ (at < 31) × ((s < 32) × Short w) ⌝ }
-    ensures { λ r. ⌜ Short r × ((r .len ≡ w .len) × (r .symbols ≡ set (w .symbols) at s)) ⌝ }
+    requires { ⌜ SymbolQuery w at s ⌝ }
+    ensures { λ r. ⌜ SymbolPut w at s r ⌝ }
 {
     w.symbols[at] = s;
     w
@@ -41,8 +42,8 @@ fn put_symbol(mut w: Word, at: usize, s: u8) -> Word
 
 // The word with its least symbol at place `at`, from the floor that stands there on, with which a path still exists.
 fn least_symbol(g: Table, n: usize, first: usize, second: usize, w: Word, at: usize) -> Word
-    requires { ⌜ Query n first second w × (at < w .len) ⌝ }
-    ensures { λ r. ⌜ Short r × ((r .len ≡ w .len) × ((al fixed : List ℕ) (floor k s : ℕ) → Alphabet al n g → Places w fixed floor k → length fixed ≡ at → leastSymbol al (tableGraph n g) (pair first second) fixed floor k ≡ some s → Places r fixed s k)) ⌝ }
+    requires { ⌜ PairQuery n first second w × (at < w .len) ⌝ }
+    ensures { λ r. ⌜ LeastPut n g first second w at r ⌝ }
 {
     let mut t = w;
     loop {
@@ -51,7 +52,7 @@ fn least_symbol(g: Table, n: usize, first: usize, second: usize, w: Word, at: us
             return t;
         }
         let s = t.symbols[at];
-        if s >= 31 {
+        if s >= LAST_SYMBOL {
             return t;
         }
         t = put_symbol(t, at, s + 1);
@@ -60,8 +61,8 @@ fn least_symbol(g: Table, n: usize, first: usize, second: usize, w: Word, at: us
 
 // The word with each place from `from` on, all of them zeros, at its least symbol with which a path still exists.
 fn fill_from(g: Table, n: usize, first: usize, second: usize, w: Word, from: usize) -> Word
-    requires { ⌜ Query n first second w ⌝ }
-    ensures { λ r. ⌜ Short r × ((al done : List ℕ) (m : ℕ) → Alphabet al n g → symbolsIn w ≡ done ++ replicate m 0 → length done ≡ from → findForm al (tableGraph n g) (pair first second) (fixedThenFree done m) ≡ true → completeZeros al (tableGraph n g) (pair first second) done m ≡ some (symbolsIn r)) ⌝ }
+    requires { ⌜ PairQuery n first second w ⌝ }
+    ensures { λ r. ⌜ ZerosFilled n g first second w from r ⌝ }
 {
     let len = w.len;
     let mut t = w;
@@ -75,8 +76,8 @@ fn fill_from(g: Table, n: usize, first: usize, second: usize, w: Word, from: usi
 
 // The least word that has the places before `at` as they stand, a symbol at `at` that is no less, and any symbols after.
 fn complete_from(g: Table, n: usize, first: usize, second: usize, w: Word, at: usize) -> Next
-    requires { ⌜ Query n first second w × (at < w .len) ⌝ }
-    ensures { λ r. ⌜ Short (r .word) × ((al fixed : List ℕ) (floor k : ℕ) → Alphabet al n g → Places w fixed floor k → length fixed ≡ at → NextAs (complete al (tableGraph n g) (pair first second) fixed floor k) r) ⌝ }
+    requires { ⌜ PairQuery n first second w × (at < w .len) ⌝ }
+    ensures { λ r. ⌜ Completed n g first second w at (λ s. s) r ⌝ }
 {
     let f = search_pair(g, n, first, second, w, at);
     if f.found {
@@ -91,11 +92,11 @@ fn complete_from(g: Table, n: usize, first: usize, second: usize, w: Word, at: u
 
 // The least word that has the places before `at` as they stand, a greater symbol at `at`, and any symbols after.
 fn raise_at(g: Table, n: usize, first: usize, second: usize, w: Word, at: usize) -> Next
-    requires { ⌜ Query n first second w × (at < w .len) ⌝ }
-    ensures { λ r. ⌜ Short (r .word) × ((al fixed : List ℕ) (s k : ℕ) → Alphabet al n g → Places w fixed s k → length fixed ≡ at → NextAs (complete al (tableGraph n g) (pair first second) fixed (suc s) k) r) ⌝ }
+    requires { ⌜ PairQuery n first second w × (at < w .len) ⌝ }
+    ensures { λ r. ⌜ Completed n g first second w at suc r ⌝ }
 {
     let s = w.symbols[at];
-    if s < 31 {
+    if s < LAST_SYMBOL {
         return complete_from(g, n, first, second, put_symbol(w, at, s + 1), at);
     }
     nothing(w)
@@ -103,8 +104,8 @@ fn raise_at(g: Table, n: usize, first: usize, second: usize, w: Word, at: usize)
 
 // The least word after w of its own length, from the last place down.
 fn next_same_length(g: Table, n: usize, first: usize, second: usize, w: Word) -> Next
-    requires { ⌜ Query n first second w ⌝ }
-    ensures { λ r. ⌜ Short (r .word) × ((al : List ℕ) → Alphabet al n g → NextAs (nextSameLength al (tableGraph n g) (pair first second) [] (symbolsIn w)) r) ⌝ }
+    requires { ⌜ PairQuery n first second w ⌝ }
+    ensures { λ r. ⌜ NextBy n g first second (λ al G p. nextSameLength al G p [] (symbolsIn w)) r ⌝ }
 {
     let mut t = w;
     let mut i = w.len;
@@ -121,19 +122,19 @@ fn next_same_length(g: Table, n: usize, first: usize, second: usize, w: Word) ->
 
 // A word of zeros.
 fn zeros(len: usize) -> Word
-    requires { ⌜ len ≤ 31 ⌝ }
+    requires { ⌜ len ≤ wordCapacity ⌝ }
     ensures { λ r. ⌜ Short r × ((r .len ≡ len) × (symbolsIn r ≡ replicate len 0)) ⌝ }
 {
     Word {
         len,
-        symbols: [0u8; 31],
+        symbols: [0u8; WORD_CAPACITY],
     }
 }
 
 // The first word of more than k symbols and at most d.
 fn first_longer(g: Table, n: usize, first: usize, second: usize, k: usize, d: usize) -> Next
-    requires { ⌜ (d ≤ 31) × ((k ≤ d) × ((w : WordValue) → Short w → Query n first second w)) ⌝ }
-    ensures { λ r. ⌜ Short (r .word) × ((al : List ℕ) → Alphabet al n g → NextAs (firstLonger al (tableGraph n g) (pair first second) k (d - k)) r) ⌝ }
+    requires { ⌜ LongerQuery n first second k d ⌝ }
+    ensures { λ r. ⌜ NextBy n g first second (λ al G p. firstLonger al G p k (d - k)) r ⌝ }
 {
     let mut len = k;
     while len < d {
@@ -148,8 +149,8 @@ fn first_longer(g: Table, n: usize, first: usize, second: usize, k: usize, d: us
 
 // The pair's first word after w in word order, of at most d symbols.
 pub fn next_word(g: Table, n: usize, first: usize, second: usize, d: usize, w: Word) -> Next
-    requires { ⌜ Query n first second w × ((w .len ≤ d) × (d ≤ 31)) ⌝ }
-    ensures { λ r. ⌜ Short (r .word) × ((al : List ℕ) → Alphabet al n g → NextAs (searchNext al (tableGraph n g) (pair first second) d (symbolsIn w)) r) ⌝ }
+    requires { ⌜ NextQuery n first second d w ⌝ }
+    ensures { λ r. ⌜ NextBy n g first second (λ al G p. searchNext al G p d (symbolsIn w)) r ⌝ }
 {
     let c = next_same_length(g, n, first, second, w);
     if c.found {

@@ -19,7 +19,8 @@ use Rattle.rebac.specs.NextWord.{pairWords}
 use Rattle.rebac.proofs.Conversion.{mined-converts}
 use Rattle.graph.specs.Legal.{legalSymbol}
 use Rattle.fields.specs.Numbers.{u16Bytes}
-use Rattle.rule_bytes.specs.ListBytes.{encodeWord, encodeTerm, encodeList, decodeCount, decodeMany, legalWord, decodeWord, decodeTerm, decodeTerms, decodeList}
+use Rattle.rule_bytes.specs.ListBytes.{encodeWord, encodeTerm, encodeList, decodeCount, decodeMany, legalWord, decodeWord}
+use Rattle.rule_bytes.specs.ListBytes.{decodeTerm, decodeTerms, decodeList}
 use Rattle.rule_text.specs.Text.{hexDigit, symbolText, joined, wordText, termText, listText}
 use Rattle.conversion.specs.Calls.{listOf, bytesOf, verdictIn}
 use Rattle.conversion.specs.declared.verdict.VerdictReply.{VerdictReply}
@@ -28,7 +29,7 @@ use Rattle.conversion.proofs.ReplyLaws.{reply-convertible}
 use Rattle.fields.specs.Decimal.{digitsIn, decimalText}
 use Rattle.report.specs.Report.{pairText, refusedLine, verdictLine, listPart}
 use Rattle.worked_cases.specs.Text.{bytesIn}
-use Rattle.worked_cases.specs.Cases.{Row, rows, RowHolds, listedEdge, listedPair}
+use Rattle.worked_cases.specs.Cases.{CaseRow, rows, RowHolds, listedEdge, listedPair}
 
 -- a value where the reply is convertible
 abbrev ifConvertible : {A : Type 0} → VerdictReply → A → Option A
@@ -46,7 +47,7 @@ record Facts : Type 0 where
   bytes : Option (List ℕ)
   back : Option (Option (List (List Word)))
 
-unfoldable reckoned : Row → Facts
+unfoldable reckoned : CaseRow → Facts
 reckoned c =
     let M = c .matter in
     record {
@@ -58,7 +59,7 @@ reckoned c =
       back = ifConvertible (c .reply) (decodeList (M .labels) (M .language) (M .longest) (c .bytes));
     }
 
-unfoldable expected : Row → Facts
+unfoldable expected : CaseRow → Facts
 expected c =
     record {
       words = c .words;
@@ -70,11 +71,12 @@ expected c =
     }
 
 computed : map reckoned rows ≡ map expected rows
-unfolding allOf anyOf filterBy firstBy flatMap upFrom range pairsOf permitted wordsOfLength wordsUpTo candidates routes pathsOf pathCount kinds
-    kindHolds apart inLanguage holds alphabet meetsItem meets permits wordsOf covers rival judge spoils verdict lacks addAgainst addAll termOf
-    mineFrom mine matterWords problemOf problemOver verdictOf minedList pairWords legalSymbol u16Bytes encodeWord encodeTerm encodeList decodeCount
-    decodeMany legalWord decodeWord decodeTerm decodeTerms decodeList hexDigit symbolText joined wordText termText listText listOf bytesOf verdictIn
-    digitsIn decimalText pairText verdictLine bytesIn listedEdge listedPair reckoned expected
+unfolding allOf anyOf filterBy firstBy flatMap upFrom range pairsOf permitted wordsOfLength wordsUpTo candidates routes pathsOf
+    pathCount kinds kindHolds apart inLanguage holds alphabet meetsItem meets permits wordsOf covers rival judge spoils verdict
+    lacks addAgainst addAll termOf mineFrom mine matterWords problemOf problemOver verdictOf minedList pairWords legalSymbol
+    u16Bytes encodeWord encodeTerm encodeList decodeCount decodeMany legalWord decodeWord decodeTerm decodeTerms decodeList
+    hexDigit symbolText joined wordText termText listText listOf bytesOf verdictIn digitsIn decimalText pairText verdictLine
+    bytesIn listedEdge listedPair reckoned expected
 computed = refl
 
 -- two functions that give the same over a list agree at each of its members
@@ -85,7 +87,7 @@ same-at f g (y ∷ ys) e m = by-mem m (λ q. rw q cc) (λ n. same-at f g ys (cc)
 if-convertible : {A : Type 0} {r : VerdictReply} {k : ℕ} {x y : A} → r ≡ Convertible k → ifConvertible r x ≡ ifConvertible r y → x ≡ y
 if-convertible {x = x} {y = y} q e = let s : some x ≡ some y = rw q at e in cc
 
-row-holds : (c : Row) → reckoned c ≡ expected c → RowHolds c
+row-holds : (c : CaseRow) → reckoned c ≡ expected c → RowHolds c
 unfolding reckoned expected verdictIn listOf
 row-holds c e =
     let a : verdictIn (c .matter) ≡ c .reply = ap (λ (r : Facts). r .reply) e in
@@ -101,7 +103,7 @@ row-holds c e =
       };
     }
 
-pub cases-hold : (c : Row) → List·Memᴰ c rows → RowHolds c
+pub cases-hold : (c : CaseRow) → List·Memᴰ c rows → RowHolds c
 cases-hold c m = row-holds c (same-at reckoned expected rows computed m)
 
 -- a first line of more digits

@@ -14,25 +14,25 @@ use Rattle.fields.specs.Numbers.{u16At}
 use Rattle.house_layout.specs.Layout.{recordSize, ownerIn, recordOf}
 use Rattle.house_layout.specs.Reply.{numberOf}
 use Rattle.house_layout.specs.Fields.{fieldsInRange, judgeRecord}
-use Rattle.house_file.specs.Check.{says, recordCheck, walkChain, walkChains, chainsCheck, checkOf}
+use Rattle.house_file.specs.Check.{says, recordCheck, followChain, followChains, chainsCheck, checkOf}
 use Rattle.house_file.specs.Meaning.{chainFrom, chainOf, recorded, isEdge, isPermitted, WellFormed}
 use Rattle.house_layout.specs.declared.reply.Check.the-variants as check
 use Rattle.house_file.proofs.WellFormedLaws.{accepted-iff-well-formed}
-use Rattle.graph.specs.Archive.{matterOf}
+use Rattle.graph.specs.FileMatter.{matterOf}
 use Rattle.conversion.specs.Calls.{verdictIn, verdictCall}
 use Rattle.conversion.specs.Demands.{MinesList}
 use Rattle.conversion.proofs.Demand3.{mining-exact}
 use Rattle.fields.specs.Decimal.{digitsIn, decimalText}
 use Rattle.report.specs.Report.{refusedLine, verdictLine, fileText}
 use Rattle.worked_cases.specs.Text.{bytesIn}
-use Rattle.worked_cases.specs.Cases.{Row, RowHolds, rowA, listedEdge, listedPair}
+use Rattle.worked_cases.specs.Cases.{CaseRow, RowHolds, rowA, listedEdge, listedPair}
 use Rattle.worked_cases.specs.Files.{fileA, fileA2, FileHolds, withParties, withRecords, RefusedFile, refusedFiles, Refuses}
 use Rattle.worked_cases.proofs.CasesHold.{same-at, cases-hold}
 use Rattle.worked_cases.proofs.CopiesHold.{copy-a}
 
 accepted : checkOf fileA ≡ check.Accepted
 unfolding allOf anyOf upFrom u16At recordSize ownerIn recordOf fieldsInRange judgeRecord
-    says recordCheck walkChain walkChains chainsCheck checkOf
+    says recordCheck followChain followChains chainsCheck checkOf
 accepted = refl
 
 -- a number from 3 on, by the tests
@@ -93,7 +93,7 @@ matter-same = λ i. record {
 }
 
 -- an accepted file with a row's matter has the row's reply and text
-of-row : (f : List ℕ) (c : Row) → checkOf f ≡ check.Accepted → matterOf f ≡ c .matter → RowHolds c → FileHolds f c
+of-row : (f : List ℕ) (c : CaseRow) → checkOf f ≡ check.Accepted → matterOf f ≡ c .matter → RowHolds c → FileHolds f c
 unfolding verdictCall fileText
 of-row f c e m h =
     let v : verdictCall f ≡ verdictIn (c .matter) = rw (e, m) in
@@ -126,7 +126,7 @@ file-a-length = refl
 -- the refusals, each by its file
 checked : map (λ c. checkOf (c .file)) refusedFiles ≡ map (λ c. check.Refused (c .refusal)) refusedFiles
 unfolding allOf anyOf upFrom u16At recordSize ownerIn recordOf fieldsInRange judgeRecord
-    says recordCheck walkChain walkChains chainsCheck checkOf
+    says recordCheck followChain followChains chainsCheck checkOf
 checked = refl
 
 numbered : map (λ c. numberOf (c .refusal)) refusedFiles ≡ map (λ c. c .number) refusedFiles

@@ -4,7 +4,7 @@ use mathlib.Core.List.{List, [], _∷_}
 use Rattle.house_layout.specs.Reply.{Said, refusal, values}
 use Rattle.house_layout.specs.declared.reply.Refusal.the-variants.{Length, RuleList}
 use Rattle.rebac.specs.Matter.{pair}
-use Rattle.mining.specs.Building.{named}
+use Rattle.mining.specs.Values.{pairValue}
 use Rattle.comparison.specs.declared.call.CompareReply.{CompareReply}
 use Rattle.comparison.specs.declared.call.CompareReply.the-variants.{Refused, Same, OnlyFile, OnlyList}
 use Rattle.worked_cases.specs.Files.{fileA, fileA2}
@@ -21,10 +21,10 @@ abbrev same : List ℕ → List ℕ → ComparedList
 same f l = record { file = f; list = l; reply = Same; said = values [] }
 
 abbrev byFile : List ℕ → List ℕ → ℕ → ℕ → ComparedList
-byFile f l a b = record { file = f; list = l; reply = OnlyFile (named (pair a b)); said = values (a ∷ b ∷ 0 ∷ []) }
+byFile f l a b = record { file = f; list = l; reply = OnlyFile (pairValue (pair a b)); said = values (a ∷ b ∷ 0 ∷ []) }
 
 abbrev byList : List ℕ → List ℕ → ℕ → ℕ → ComparedList
-byList f l a b = record { file = f; list = l; reply = OnlyList (named (pair a b)); said = values (a ∷ b ∷ 1 ∷ []) }
+byList f l a b = record { file = f; list = l; reply = OnlyList (pairValue (pair a b)); said = values (a ∷ b ∷ 1 ∷ []) }
 
 abbrev broken : List ℕ → List ℕ → ComparedList
 broken f l = record { file = f; list = l; reply = Refused RuleList; said = refusal 9 }

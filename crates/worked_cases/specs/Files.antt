@@ -9,12 +9,12 @@ use Rattle.house_file.specs.Check.{checkOf}
 use Rattle.house_layout.specs.declared.reply.Check.the-variants as check
 use Rattle.house_layout.specs.declared.reply.Refusal.{Refusal}
 use Rattle.house_layout.specs.declared.reply.Refusal.the-variants.{Length, Field, Link, Again, Unreached, Owner, Target, Kind, Repeat}
-use Rattle.graph.specs.Archive.{matterOf}
+use Rattle.graph.specs.FileMatter.{matterOf}
 use Rattle.conversion.specs.Calls.{bytesOf, verdictCall}
 use Rattle.conversion.specs.declared.verdict.VerdictReply.the-variants.{Convertible}
 use Rattle.report.specs.Report.{fileText}
 use Rattle.worked_cases.specs.Text.{bytesIn}
-use Rattle.worked_cases.specs.Cases.{Row}
+use Rattle.worked_cases.specs.Cases.{CaseRow}
 
 -- "A's file, 26 bytes: 01 03 01 00 02 00 03 00, heads 01 00 03 00 00 00, records 01 00 02 00, 02 FF 00 00, 02 00 00 00."
 abbrev pub fileA : List ℕ
@@ -37,7 +37,7 @@ fileA2 =
     ∷ []
 
 -- a file is accepted and says a row's matter, so that the calls answer as the row does
-pub record FileHolds (f : List ℕ) (c : Row) : Type 0 where
+pub record FileHolds (f : List ℕ) (c : CaseRow) : Type 0 where
   pub accepted : checkOf f ≡ check.Accepted
   pub matter : matterOf f ≡ c .matter
   pub reply : verdictCall f ≡ c .reply

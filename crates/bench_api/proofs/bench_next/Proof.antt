@@ -1,6 +1,6 @@
 -- An accepted file stands for its matter.
 use mathlib.Core.Path.{sym, _∙_}
-use Rattle.graph.specs.Archive.{matterOf}
+use Rattle.graph.specs.FileMatter.{matterOf}
 use borrow.Author.Needs.{needs}
 use Rattle.bench_api.proofs.bench_next.Statement.{statement}
 use Rattle.bench_api.proofs.bench_next.Tie as tie
@@ -15,7 +15,10 @@ enum-told-2 : tie.Need-enum-told-2
 enum-told-2 c = search needs
 
 walk-all-requires : tie.Need-walk-all-requires
-walk-all-requires c κs = (matterOf (c .before .before .before .before .before .before .args .file .now), c .before .before .before .load .ensures .archive (sym (c .before .before .before .load .ensures .reply) ∙ c .before .enum-told2 .given .1))
+walk-all-requires c κs =
+    let t = c .before .before .before in
+    let accepted = sym (t .load .ensures .reply) ∙ c .before .enum-told2 .given .1 in
+    (matterOf (t .before .before .before .args .file .now), t .load .ensures .archive accepted)
 
 returns : tie.Need-returns
 returns c = search needs

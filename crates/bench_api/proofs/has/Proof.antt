@@ -9,18 +9,20 @@ use Rattle.bench_api.proofs.has.Tie as tie
 is-pair-requires : tie.Need-is-pair-requires
 is-pair-requires c κs = search needs
 
-legal-word-requires : tie.Need-legal-word-requires
-legal-word-requires c κs = search needs
+legal-given-word-requires : tie.Need-legal-given-word-requires
+legal-given-word-requires c κs = search needs
 
 has-word-requires : tie.Need-has-word-requires
 has-word-requires c κs =
     let x = c .before .before .before .before .before in
     let a = x .args in
+    let M = x .pre .0 in
     let S = x .pre .1 in
     let n : length (a .w .symbols) ≡ 31 = search needs in
-    let l = sym (shown-legal (x .pre .0) (a .a) S (a .w)) ∙ sym (c .before .before .legal-word .ensures) ∙ c .before .if2 .taken in
-    let p = sym (shown-pair (x .pre .0) (a .a) S (a .first) (a .second)) ∙ sym (c .before .before .before .before .is-pair .ensures) ∙ c .before .before .before .if1 .taken in
-    query-of (x .pre .0) (a .a) S (a .first) (a .second) (a .w) p (legal-short (x .pre .0) (S .limits) (a .w) n l)
+    let l = sym (shown-legal M (a .a) S (a .w)) ∙ sym (c .before .before .legal-given-word .ensures) ∙ c .before .if2 .taken in
+    let b = c .before .before .before in
+    let p = sym (shown-pair M (a .a) S (a .first) (a .second)) ∙ sym (b .before .is-pair .ensures) ∙ b .if1 .taken in
+    query-of M (a .a) S (a .first) (a .second) (a .w) p (legal-short M (S .limits) (a .w) n l)
 
 returns : tie.Need-returns
 returns c = search needs
@@ -34,4 +36,4 @@ returns-3 c = search needs
 pub has-spec : {M : Type 1} → statement M
 has-spec =
     tie.close
-    (tie.spec is-pair-requires legal-word-requires has-word-requires returns returns-2 returns-3)
+    (tie.spec is-pair-requires legal-given-word-requires has-word-requires returns returns-2 returns-3)

@@ -1,4 +1,4 @@
--- The steps that are left fall.
+-- Invariant: none is needed. Measure: the steps left.
 use borrow.Author.Needs.{needs}
 use Rattle.bench_api.proofs.walk.Statement.{statement}
 use Rattle.bench_api.proofs.walk.Tie as tie

@@ -1,4 +1,4 @@
--- The place rises by a record each turn.
+-- Invariant: the place is inside the records. Measure: the bytes left.
 use Prim.Native.Nat.{_-_, _≤_}
 use lib.ListN.{length}
 use borrow.Author.Needs.{needs}

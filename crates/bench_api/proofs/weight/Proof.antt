@@ -1,4 +1,4 @@
--- A count up to its end.
+-- Invariant: at most 31 places were looked at. Measure: the places left.
 use Prim.Native.Nat.{_-_, _≤_}
 use borrow.Author.Needs.{needs}
 use Rattle.bench_api.proofs.weight.Statement.{statement}

@@ -1,4 +1,4 @@
--- The turns that are left fall.
+-- Invariant: none is needed. Measure: the turns left.
 use borrow.Author.Needs.{needs}
 use Rattle.cases.proofs.main.Statement.{statement}
 use Rattle.cases.proofs.main.Tie as tie

@@ -15,7 +15,9 @@ slice-reshare-prefix-run : tie.Need-slice-reshare-prefix-run
 slice-reshare-prefix-run c = c .before .before .before .before .before .fill .ensures (c .before .before .if1 .taken)
 
 slice-aggregate-run : tie.Need-slice-aggregate-run
-slice-aggregate-run c = sym (length-take-le _ _ (c .before .before .before .before .before .before .fill .ensures (c .before .before .before .if1 .taken)))
+slice-aggregate-run c =
+    let t = c .before .before .before in
+    sym (length-take-le _ _ (t .before .before .before .fill .ensures (t .if1 .taken)))
 
 run-requires : tie.Need-run-requires
 run-requires c κs = search needs
@@ -30,7 +32,9 @@ slice-reshare-prefix-run-2 : tie.Need-slice-reshare-prefix-run-2
 slice-reshare-prefix-run-2 c = c .before .before .before .before .before .fill .ensures (c .before .before .if1 .taken)
 
 slice-aggregate-run-2 : tie.Need-slice-aggregate-run-2
-slice-aggregate-run-2 c = sym (length-take-le _ _ (c .before .before .before .before .before .before .fill .ensures (c .before .before .before .if1 .taken)))
+slice-aggregate-run-2 c =
+    let t = c .before .before .before in
+    sym (length-take-le _ _ (t .before .before .before .fill .ensures (t .if1 .taken)))
 
 run-requires-2 : tie.Need-run-requires-2
 run-requires-2 c κs = search needs

@@ -1,4 +1,4 @@
--- A count up to its end.
+-- Invariant: at most 32 rows were shown. Measure: the rows left.
 use Prim.Native.Nat.{_-_, _≤_}
 use borrow.Author.Needs.{needs}
 use Rattle.cases.proofs.show_house.Statement.{statement}

@@ -1,4 +1,4 @@
--- A count up to its end.
+-- Invariant: at most 32 places of the row were shown. Measure: the places left.
 use Prim.Native.Nat.{_-_, _≤_}
 use borrow.Author.Needs.{needs}
 use Rattle.cases.proofs.show_row.Statement.{statement}

@@ -1,11 +1,12 @@
--- The house that was read stands for the file's matter.
+-- A refusal is the check's; the house that was read of an accepted file stands for the file's matter, so its enlarged graph does too.
 use mathlib.Core.Path.{_≡_, sym, ap, _∙_}
 use native.Mathlib.Omega.{arith}
 use Rattle.house_file.specs.Check.{checkOf}
 use Rattle.house_layout.specs.declared.header.Header.{Header}
 use Rattle.house_layout.specs.declared.reply.Check.the-variants.{Accepted}
 use Rattle.house_file.proofs.DecodeLaws.{refused-not}
-use Rattle.graph.specs.Archive.{matterOf, Records}
+use Rattle.graph.specs.FileMatter.{matterOf}
+use Rattle.graph.specs.promises.Archive.{Records}
 use Rattle.graph.proofs.LoadLaws.{accepted-records}
 use borrow.Author.Needs.{needs}
 use Rattle.graph.proofs.load.Statement.{statement}
@@ -14,7 +15,9 @@ use Rattle.graph.proofs.load.Tie as tie
 accepted : (c : tie.After-enum-told) → checkOf (c .before .before .before .before .args .file .now) ≡ Accepted
 accepted c = sym (c .before .before .read .ensures .reply) ∙ c .enum-told .given .1
 
-stands : (c : tie.After-enum-told) → Records (matterOf (c .before .before .before .before .args .file .now)) (c .before .before .read .result .house .header) (c .before .before .read .result .house .kinds)
+stands : (c : tie.After-enum-told)
+    → let house = c .before .before .read .result .house in
+    Records (matterOf (c .before .before .before .before .args .file .now)) (house .header) (house .kinds)
 stands c = accepted-records _ (accepted c) _ (c .before .before .read .ensures .house (accepted c))
 
 read-requires : tie.Need-read-requires
@@ -32,7 +35,11 @@ enum-told c = search needs
 enlarge-requires : tie.Need-enlarge-requires
 enlarge-requires c κs =
     let r = stands (c .before .before .before .before) in
-    (omega (arith, r .parties, r .limits .parties .1), (omega (arith, r .labels, r .limits .labels .1), omega (arith, r .language, r .limits .language)))
+    record {
+      parties = omega (arith, r .parties, r .limits .parties .1);
+      labels = omega (arith, r .labels, r .limits .labels .1);
+      language = omega (arith, r .language, r .limits .language);
+    }
 
 returns : tie.Need-returns
 returns c =
@@ -42,10 +49,11 @@ returns c =
 returns-2 : tie.Need-returns-2
 unfolding matterOf
 returns-2 c =
-    let r = stands (c .before .before .before .before .before) in
-    let d = c .before .before .before .before .before .before .before .read .ensures .house (accepted (c .before .before .before .before .before)) in
+    let told = c .before .before .before .before .before in
+    let r = stands told in
+    let d = told .before .before .read .ensures .house (accepted told) in
     record {
-      reply = sym (accepted (c .before .before .before .before .before));
+      reply = sym (accepted told);
       archive = λ a. record {
         limits = r .limits;
         parties = r .parties;

@@ -1,11 +1,11 @@
--- The mask is filled symbol by symbol.
+-- Invariant: the mask is filled for the symbols below s. Measure: the symbols left.
 use borrow.Author.Needs.{needs}
 use mathlib.Core.Path.{_≡_, sym, _∙_}
 use mathlib.Core.Logic.{⊎-elim}
 use Prim.Native.Nat.{_-_, _*_, _≤_}
 use native.Mathlib.Omega.{arith}
 use Rattle.masks.proofs.MaskLaws.{Filled, filled-none, filled-with, filled-without}
-use Rattle.graph.specs.Archive.{symbolIn}
+use Rattle.graph.specs.promises.Archive.{symbolIn}
 use Rattle.graph.proofs.symbols.Statement.{statement}
 use Rattle.graph.proofs.symbols.Tie as tie
 
@@ -39,7 +39,8 @@ loop-less c = search needs
 loop-again : tie.Need-loop-again Inv-loop μ-loop
 loop-again c =
     let l = c .before .before .before .loop in
-    let p = symbolIn (c .before .before .before .before .args .language) (c .before .before .before .before .args .out) (c .before .before .before .before .args .back) in (
+    let a = c .before .before .before .before .args in
+    let p = symbolIn (a .language) (a .out) (a .back) in (
       search needs,
       ⊎-elim
           (λ w. rw (w .2 ∙ w .1 .ensures) (filled-with p (l .s) (l .mask) (l .inv .1) (sym (c .before .symbol-in .ensures) ∙ w .0 .taken)))

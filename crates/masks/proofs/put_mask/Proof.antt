@@ -2,10 +2,9 @@
 use mathlib.Core.Path.{_≡_}
 use Prim.Native.Nat.{ℕ}
 use native.Mathlib.Omega.{arith}
-use borrow.Author.Needs.{length-unmapped}
+use borrow.Author.Needs.{length-unmapped, needs}
 use lib.ListN.{length}
 use lib.Seq.{getD-set-same, getD-set-other}
-use borrow.Author.Needs.{needs}
 use Rattle.masks.proofs.put_mask.Statement.{statement}
 use Rattle.masks.proofs.put_mask.Tie as tie
 

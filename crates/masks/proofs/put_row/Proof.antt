@@ -2,7 +2,7 @@
 use mathlib.Core.Path.{_≡_, sym, ap, _∙_}
 use native.Mathlib.Omega.{arith}
 use lib.ListN.{length, length-map}
-use Rattle.masks.specs.Table.{noRow, maskIn}
+use Rattle.masks.specs.promises.Table.{noRow, maskIn}
 use Rattle.masks.specs.declared.Row.{Row}
 use lib.Seq.{getD-set-same, getD-set-other}
 use borrow.Author.Needs.{needs}

@@ -1,61 +1,81 @@
--- The array's part that was read is lent to `answer`.
-use mathlib.Core.Path.{subst}
-use Rattle.report.specs.Report.{Inside}
-use Rattle.permitconv.specs.Input.{Counted}
-use Rattle.permitconv.specs.declared.Input.{Input}
+-- The part of the array that the argument fills is held against the words.
 use borrow.Author.Needs.{needs}
 use Rattle.permitconv.proofs.main.Statement.{statement}
 use Rattle.permitconv.proofs.main.Tie as tie
 
-slice-aggregate-read-input : tie.Need-slice-aggregate-read-input
-slice-aggregate-read-input c = search needs
+slice-aggregate-arg : tie.Need-slice-aggregate-arg
+slice-aggregate-arg c = search needs
 
-read-input-requires : tie.Need-read-input-requires
-read-input-requires c κs = search needs
+arg-requires : tie.Need-arg-requires
+arg-requires c κs = search needs
 
-enum-known-input : tie.Need-enum-known-input
-enum-known-input c = search needs
+array-share-prefix-asked : tie.Need-array-share-prefix-asked
+array-share-prefix-asked c = search needs
 
--- what was read is counted inside the array
-counted : (c : tie.After-known-told) → Inside (c .before .input .given .0 .0) (c .before .before .before .before .read-input .last .0)
-counted c = subst (λ (i : Input). Counted i (c .before .before .before .before .read-input .last .0)) (c .before .input .given .1) (c .before .before .before .before .read-input .ensures)
+slice-aggregate-is-word : tie.Need-slice-aggregate-is-word
+slice-aggregate-is-word c = search needs
 
-array-share-prefix-file : tie.Need-array-share-prefix-file
-array-share-prefix-file c = counted c .0
+slice-aggregate-is-word-2 : tie.Need-slice-aggregate-is-word-2
+slice-aggregate-is-word-2 c = search needs
 
-slice-aggregate-answer : tie.Need-slice-aggregate-answer
-slice-aggregate-answer c = counted (c .before) .1
+is-word-requires : tie.Need-is-word-requires
+is-word-requires c κs = search needs
 
-answer-requires : tie.Need-answer-requires
-answer-requires c κs = search needs
+slice-aggregate-print : tie.Need-slice-aggregate-print
+slice-aggregate-print c = search needs
 
-enum-told : tie.Need-enum-told
-enum-told c = search needs
-
-slice-aggregate-write-all : tie.Need-slice-aggregate-write-all
-slice-aggregate-write-all c = search needs
-
-write-all-requires : tie.Need-write-all-requires
-write-all-requires c κs = search needs
+print-requires : tie.Need-print-requires
+print-requires c κs = search needs
 
 returns : tie.Need-returns
 returns c = search needs
 
+array-share-prefix-asked-2 : tie.Need-array-share-prefix-asked-2
+array-share-prefix-asked-2 c = search needs
+
+slice-aggregate-is-word-3 : tie.Need-slice-aggregate-is-word-3
+slice-aggregate-is-word-3 c = search needs
+
+slice-aggregate-is-word-4 : tie.Need-slice-aggregate-is-word-4
+slice-aggregate-is-word-4 c = search needs
+
+is-word-requires-2 : tie.Need-is-word-requires-2
+is-word-requires-2 c κs = search needs
+
+slice-aggregate-print-2 : tie.Need-slice-aggregate-print-2
+slice-aggregate-print-2 c = search needs
+
+print-requires-2 : tie.Need-print-requires-2
+print-requires-2 c κs = search needs
+
 returns-2 : tie.Need-returns-2
 returns-2 c = search needs
+
+convert-requires : tie.Need-convert-requires
+convert-requires c κs = search needs
+
+returns-3 : tie.Need-returns-3
+returns-3 c = search needs
 
 pub main-spec : {M : Type 1} → statement M
 main-spec =
     tie.close
     (tie.spec
-    slice-aggregate-read-input
-    read-input-requires
-    enum-known-input
-    array-share-prefix-file
-    slice-aggregate-answer
-    answer-requires
-    enum-told
-    slice-aggregate-write-all
-    write-all-requires
+    slice-aggregate-arg
+    arg-requires
+    array-share-prefix-asked
+    slice-aggregate-is-word
+    slice-aggregate-is-word-2
+    is-word-requires
+    slice-aggregate-print
+    print-requires
     returns
-    returns-2)
+    array-share-prefix-asked-2
+    slice-aggregate-is-word-3
+    slice-aggregate-is-word-4
+    is-word-requires-2
+    slice-aggregate-print-2
+    print-requires-2
+    returns-2
+    convert-requires
+    returns-3)

@@ -1,4 +1,5 @@
--- The bytes read so far are within the slice, whose length stays; each turn reads one byte or more, so the room left falls. Assumes what libc says of read.
+-- Invariant: the bytes read so far are within the slice, whose length stays. Measure: the room left, which falls since each turn
+-- reads a byte or more. Assumes what libc says of read.
 use borrow.Author.Needs.{needs}
 use Prim.Native.Nat.{_≤_, _-_}
 use mathlib.Core.Path.{_≡_}
@@ -6,7 +7,7 @@ use native.Mathlib.Omega.{arith}
 use lib.ListN.{length}
 use borrow.Rule.Slice.PartMut.{midOf}
 use Rattle.report.proofs.ReportLaws.{inside}
-use Rattle.permitconv.proofs.ReadLaws.{Taken, taken}
+use Rattle.permitconv.proofs.ReadLaws.{ReadCount, read-count}
 use Rattle.permitconv.proofs.read_input.Statement.{statement}
 use Rattle.permitconv.proofs.read_input.Tie as tie
 
@@ -46,8 +47,10 @@ returns-2 c = inside _ _ (omega arith)
 -- what a turn reads
 turn : (c : tie.Else2 Inv-loop μ-loop) → (
     let l = c .before .before .before .before .before .before .before .loop in
-    Taken (length (midOf (l .done) (length (l .file) - l .done) (l .file))) (c .before .before .before .before .read .result))
-turn c = taken (c .before .before .before .before .read .result) _ (c .before .before .before .before .read .ensures) (c .before .if1 .left) (c .if2 .left)
+    ReadCount (length (midOf (l .done) (length (l .file) - l .done) (l .file))) (c .before .before .before .before .read .result))
+turn c =
+    let r = c .before .before .before .before .read in
+    read-count (r .result) _ (r .ensures) (c .before .if1 .left) (c .if2 .left)
 
 cast-done : tie.Need-cast-done Inv-loop μ-loop
 cast-done c = let t = turn c in (t .counts, omega (arith, t .within))

@@ -1,8 +1,8 @@
--- The count is that of the kinds at the places passed.
+-- Invariant: the count is that of the mask's kinds at the places below `place`. Measure: the places left.
 use mathlib.Core.Path.{_≡_, sym, ap, _∙_}
 use mathlib.Core.Logic.{⊎-elim}
 use mathlib.Core.List.{[], _∷_}
-use Prim.Native.Nat.{_+_, _-_, _≤_}
+use Prim.Native.Nat.{ℕ, _+_, _-_, _≤_}
 use native.Mathlib.Omega.{arith}
 use lib.ListN.{length, getD, length-append}
 use Rattle.canonical.specs.Canonical.{kindBytes}
@@ -11,14 +11,19 @@ use borrow.Author.Needs.{needs}
 use Rattle.canonical.proofs.count.count_kinds.Statement.{statement}
 use Rattle.canonical.proofs.count.count_kinds.Tie as tie
 
+record CountedTo (labels mask count place : ℕ) : Type 0 where
+  inside : place ≤ labels + 1
+  bounded : count ≤ place
+  counted : count ≡ length (kindsTo labels mask place)
+
 abbrev Inv-loop : tie.InvT-loop
-Inv-loop labels mask count₀ place₀ count place = (place ≤ labels + 1) × ((count ≤ place) × (count ≡ length (kindsTo labels mask place)))
+Inv-loop labels mask count₀ place₀ count place = CountedTo labels mask count place
 
 abbrev μ-loop : tie.MeasureT-loop
 μ-loop labels mask count₀ place₀ count place = labels + 1 - place
 
 loop-holds : tie.Need-loop-holds Inv-loop μ-loop
-loop-holds c = (omega arith, (omega arith, sym (ap length (kinds-none _ _))))
+loop-holds c = record { inside = omega arith; bounded = omega arith; counted = sym (ap length (kinds-none _ _)) }
 
 says-at-requires : tie.Need-says-at-requires Inv-loop μ-loop
 says-at-requires c κs = search needs
@@ -41,17 +46,17 @@ loop-again c =
     (λ w.
     let m = kinds-more (a .labels) (a .mask) (l .place) (c .before .before .loop-test .taken) (sym e ∙ w .0 .taken) in
     let n = length-append (kindsTo (a .labels) (a .mask) (l .place)) (getD (kindBytes (a .labels)) (l .place) 0 ∷ []) in
-    (omega arith, (omega (arith, w .1), omega (arith, w .1, ap length m, n))))
+    record { inside = omega arith; bounded = omega (arith, w .1); counted = omega (arith, w .1, ap length m, n) })
     (λ w.
     let m = kinds-same (a .labels) (a .mask) (l .place) (c .before .before .loop-test .taken) (sym e ∙ w .0 .left) in
-    (omega arith, (omega (arith, w .1), omega (arith, w .1, ap length m))))
+    record { inside = omega arith; bounded = omega (arith, w .1); counted = omega (arith, w .1, ap length m) })
     (c .if1 .came)
 
 returns : tie.Need-returns Inv-loop μ-loop
 returns c =
     let l = c .before .loop in
     let a = c .before .before .args in
-    l .inv .1 .1 ∙ ap length (kinds-all (a .labels) (a .mask) (l .place) (c .loop-test .left))
+    l .inv .counted ∙ ap length (kinds-all (a .labels) (a .mask) (l .place) (c .loop-test .left))
 
 pub count-kinds-spec : {M : Type 1} → statement M
 count-kinds-spec =

@@ -1,8 +1,8 @@
 -- The kind at the place is legal, so its bit is below 32.
 use mathlib.Core.Path.{_≡_, ap, _∙_}
 use lib.ListN.{getD}
-use Rattle.masks.specs.Mask.{testBit}
-use Rattle.house_layout.specs.Kinds.{bitOf}
+use Rattle.masks.specs.promises.Mask.{testBit}
+use Rattle.house_layout.specs.promises.Kinds.{bitOf}
 use Rattle.house_layout.proofs.RecordLaws.{bit-small}
 use Rattle.canonical.specs.Canonical.{kindBytes}
 use Rattle.canonical.proofs.CountLaws.{kind-of-place}
@@ -17,7 +17,8 @@ bit-of-requires : tie.Need-bit-of-requires
 bit-of-requires c κs = search needs
 
 -- the place that is tested
-place : (c : tie.After-bit-of) → c .bit-of .result ≡ bitOf (getD (kindBytes (c .before .before .args .labels)) (c .before .before .args .place) 0)
+place : (c : tie.After-bit-of)
+    → c .bit-of .result ≡ bitOf (getD (kindBytes (c .before .before .args .labels)) (c .before .before .args .place) 0)
 place c = c .bit-of .ensures ∙ ap bitOf (c .before .kind-at .ensures .0)
 
 has-requires : tie.Need-has-requires

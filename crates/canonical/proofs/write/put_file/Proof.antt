@@ -3,8 +3,8 @@ use mathlib.Core.Path.{_≡_, sym, _∙_}
 use native.Mathlib.Omega.{arith}
 use lib.ListN.{length}
 use Rattle.canonical.specs.Canonical.{headerBytes, headsBy, headerFor, writtenEdition}
-use Rattle.canonical.specs.Masks.{matterIn, numbersIn}
-use Rattle.canonical.proofs.EntryLaws.{count-few}
+use Rattle.canonical.specs.promises.Masks.{matterIn, numbersIn}
+use Rattle.canonical.proofs.EntryLaws.{count-bounded}
 use Rattle.canonical.proofs.LayoutLaws.{header-size, heads-size, first-most}
 use Rattle.fields.proofs.PutLaws.{put-kept}
 use Rattle.canonical.proofs.WriteLaws.{recordsTo, file-put}
@@ -30,7 +30,7 @@ after-heads c =
 put-header-requires : tie.Need-put-header-requires
 put-header-requires c κs =
     let p = c .before .before .pre in
-    let n = count-few (matterIn (c .before .before .args .h) (c .before .before .args .kinds)) (p .parties) (p .labels) in
+    let n = count-bounded (matterIn (c .before .before .args .h) (c .before .before .args .kinds)) (p .parties) (p .labels) in
     record {
       edition = omega (arith, p .edition);
       parties = omega arith;
@@ -46,8 +46,8 @@ put-heads-requires c κs =
     let s = c .before .before .before .before .before .before in
     let e = after-header (c .before .before .before) in
     let M = matterIn (s .args .h) (s .args .kinds) in
-    let n = count-few M (s .pre .parties) (s .pre .labels) in
-    record { few = s .pre .parties; numbers = λ u l. omega (arith, s .pre .firsts u l, n, first-most M u l); room = omega arith }
+    let n = count-bounded M (s .pre .parties) (s .pre .labels) in
+    record { bounded = s .pre .parties; numbers = λ u l. omega (arith, s .pre .firsts u l, n, first-most M u l); room = omega arith }
 
 put-records-requires : tie.Need-put-records-requires
 put-records-requires c κs =

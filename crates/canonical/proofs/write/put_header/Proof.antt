@@ -1,4 +1,4 @@
--- Six bytes, then the number of records in two.
+-- Six bytes stored one after another, then the number of records in two.
 use native.Mathlib.Omega.{arith}
 use lib.ListN.{length-set}
 use Rattle.canonical.specs.Canonical.{headerBytes}

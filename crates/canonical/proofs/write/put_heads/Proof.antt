@@ -1,26 +1,33 @@
--- The heads written so far are those of the parties passed, two bytes each.
+-- Invariant: the heads of the parties below u are written, two bytes each. Measure: the parties left.
 use mathlib.Core.Path.{_≡_, refl, sym, _∙_}
-use Prim.Native.Nat.{_+_, _-_, _≤_}
+use mathlib.Core.List.{List}
+use Prim.Native.Nat.{ℕ, _+_, _-_, _≤_}
 use native.Mathlib.Omega.{arith}
 use lib.ListN.{length}
-use Rattle.fields.specs.Writing.{put}
+use Rattle.fields.specs.promises.Writing.{put}
 use Rattle.fields.proofs.PutLaws.{put-nil, put-kept}
 use Rattle.canonical.specs.Canonical.{headsBy}
-use Rattle.canonical.specs.Masks.{numbersIn}
+use Rattle.canonical.specs.promises.Masks.{numbersIn}
+use Rattle.canonical.specs.declared.count.Firsts.{Firsts}
 use Rattle.canonical.proofs.LayoutLaws.{heads-size}
 use Rattle.canonical.proofs.WriteLaws.{heads-none, heads-put}
 use borrow.Author.Needs.{needs}
 use Rattle.canonical.proofs.write.put_heads.Statement.{statement}
 use Rattle.canonical.proofs.write.put_heads.Tie as tie
 
+record HeadsTo (out₀ : List ℕ) (parties : ℕ) (f : Firsts) (out : List ℕ) (u : ℕ) : Type 0 where
+  inside : u ≤ parties
+  size : length out ≡ length out₀
+  bytes : out ≡ put out₀ 8 (headsBy (numbersIn f) u)
+
 abbrev Inv-loop : tie.InvT-loop
-Inv-loop out₀ parties f u₀ out u = (u ≤ parties) × ((length out ≡ length out₀) × (out ≡ put out₀ 8 (headsBy (numbersIn f) u)))
+Inv-loop out₀ parties f u₀ out u = HeadsTo out₀ parties f out u
 
 abbrev μ-loop : tie.MeasureT-loop
 μ-loop out₀ parties f u₀ out u = parties - u
 
 loop-holds : tie.Need-loop-holds Inv-loop μ-loop
-loop-holds c = (omega arith, (refl, rw heads-none (sym (put-nil _ _))))
+loop-holds c = record { inside = omega arith; size = refl; bytes = rw heads-none (sym (put-nil _ _)) }
 
 mul-put-u16 : tie.Need-mul-put-u16 Inv-loop μ-loop
 mul-put-u16 c = search needs
@@ -63,17 +70,23 @@ loop-again c =
     let l = c .before .before .before .before .before .before .before .before .loop in
     let a = c .before .before .before .before .before .before .before .before .before .before .args in
     let k = c .before .before .before .link-to in
-    let o = c .before .before .put-u16 .ensures ∙ heads-put (numbersIn (a .t3)) (a .out .now) (l .out) (l .u) (k .result) (omega arith) (k .ensures .0) (l .inv .1 .1) in
-    (omega arith, (put-kept (a .out .now) _ 8 _ o (omega (arith, heads-size (numbersIn (a .t3)) (l .u + 1))), o))
+    let first = numbersIn (a .t3) in
+    let p = heads-put first (a .out .now) (l .out) (l .u) (k .result) (omega arith) (k .ensures .0) (l .inv .bytes) in
+    let o = c .before .before .put-u16 .ensures ∙ p in
+    record {
+      inside = omega arith;
+      size = put-kept (a .out .now) _ 8 _ o (omega (arith, heads-size first (l .u + 1)));
+      bytes = o;
+    }
 
 same-length : tie.Need-same-length Inv-loop μ-loop
-same-length c = c .before .loop .inv .1 .0
+same-length c = c .before .loop .inv .size
 
 returns : tie.Need-returns Inv-loop μ-loop
 returns c =
     let l = c .before .loop in
     let e : l .u ≡ c .before .before .before .args .parties = omega arith in
-    rw e at (l .inv .1 .1)
+    rw e at (l .inv .bytes)
 
 pub put-heads-spec : {M : Type 1} → statement M
 put-heads-spec =

@@ -1,27 +1,31 @@
--- The records written so far are those of the kinds at the places passed.
+-- Invariant: the records of the kinds at the places below `place` are written, and `next` is the number of the one after them.
+-- Measure: the places left.
 use mathlib.Core.Path.{_≡_, refl, sym, ap, _∙_}
 use mathlib.Core.Logic.{⊎-elim}
-use mathlib.Core.List.{[], _∷_, _++_}
+use mathlib.Core.List.{List, [], _∷_, _++_}
 use Prim.Native.Nat.{ℕ, _+_, _-_, _*_, _≤_}
 use native.Mathlib.Omega.{arith}
 use lib.ListN.{length, getD, length-append}
-use Rattle.fields.specs.Writing.{put}
+use Rattle.fields.specs.promises.Writing.{put}
 use Rattle.fields.proofs.PutLaws.{put-nil, put-kept}
 use Rattle.house_layout.specs.declared.record.OwnerByte.the-variants.{Party}
 use Rattle.canonical.specs.Canonical.{kindBytes}
-use Rattle.canonical.specs.Masks.{pairBytes}
+use Rattle.canonical.specs.promises.Masks.{pairBytes}
 use Rattle.canonical.proofs.CountLaws.{kindsTo, kinds-none, kinds-all, kinds-more, kinds-same, kinds-most, kinds-room}
 use Rattle.canonical.proofs.WriteLaws.{pair-none, pair-length, pair-put}
 use borrow.Author.Needs.{needs}
 use Rattle.canonical.proofs.write.put_pair.Statement.{statement}
 use Rattle.canonical.proofs.write.put_pair.Tie as tie
 
+record PairTo (out₀ : List ℕ) (base owner target labels mask number end : ℕ) (out : List ℕ) (next place : ℕ) : Type 0 where
+  inside : place ≤ labels + 1
+  size : length out ≡ length out₀
+  count : next ≡ number + length (kindsTo labels mask place)
+  bytes : out ≡ put out₀ (base + 5 * (number - 1)) (pairBytes end number owner target (kindsTo labels mask place))
+
 abbrev Inv-loop : tie.InvT-loop
 Inv-loop out₀ base owner target labels mask number end next₀ place₀ out next place =
-    (place ≤ labels + 1)
-    × ((length out ≡ length out₀)
-    × ((next ≡ number + length (kindsTo labels mask place))
-    × (out ≡ put out₀ (base + 5 * (number - 1)) (pairBytes end number owner target (kindsTo labels mask place)))))
+    PairTo out₀ base owner target labels mask number end out next place
 
 abbrev μ-loop : tie.MeasureT-loop
 μ-loop out₀ base owner target labels mask number end next₀ place₀ out next place = labels + 1 - place
@@ -35,7 +39,12 @@ room c =
     omega (arith, kinds-room (a .labels) (a .mask) (l .place) t (sym (c .before .says-at .ensures) ∙ c .if1 .taken))
 
 loop-holds : tie.Need-loop-holds Inv-loop μ-loop
-loop-holds c = (omega arith, (refl, rw (kinds-none, pair-none) (omega arith, sym (put-nil _ _))))
+loop-holds c = record {
+  inside = omega arith;
+  size = refl;
+  count = rw kinds-none (omega arith);
+  bytes = rw (kinds-none, pair-none) (sym (put-nil _ _));
+}
 
 says-at-requires : tie.Need-says-at-requires Inv-loop μ-loop
 says-at-requires c κs = search needs
@@ -80,7 +89,7 @@ loop-again c =
     let a = c .before .before .before .before .before .args in
     let e = c .before .says-at .ensures in
     let t : l .place ≤ a .labels = omega (arith, c .before .before .loop-test .taken) in
-    let i = l .inv .1 .1 in
+    let i = l .inv in
     let ks = kindsTo (a .labels) (a .mask) (l .place) in
     let more = kindsTo (a .labels) (a .mask) (l .place + 1) in
     ⊎-elim
@@ -91,25 +100,25 @@ loop-again c =
     let k = m ∙ ap (λ (k : ℕ). ks ++ (k ∷ [])) (sym (w .1 .ensures .0)) in
     let p =
     pair-put (a .end) (a .out .now) (l .out) (a .base) (a .number) (a .owner) (a .target) (l .next) ks more (w .1 .result) (w .2 .result)
-    (omega arith) (omega arith) (i .0) k (w .2 .ensures .0) (i .1) in
+    (omega arith) (omega arith) (i .count) k (w .2 .ensures .0) (i .bytes) in
     let o = w .7 ∙ w .4 .ensures ∙ p in
     let g = pair-length (a .end) (a .number) (a .owner) (a .target) more in
     let s = put-kept (a .out .now) (c .if1 .out) (a .base + 5 * (a .number - 1)) _ o (omega (arith, f, g)) in
-    (omega arith, (s, (omega (arith, w .8, n), o))))
+    record { inside = omega arith; size = s; count = omega (arith, w .8, n); bytes = o })
     (λ w.
     let m = kinds-same (a .labels) (a .mask) (l .place) t (sym e ∙ w .0 .left) in
-    (omega arith, (ap length (w .1) ∙ l .inv .1 .0, rw m (w .2 ∙ i .0, w .1 ∙ i .1))))
+    record { inside = omega arith; size = ap length (w .1) ∙ i .size; count = rw m (w .2 ∙ i .count); bytes = rw m (w .1 ∙ i .bytes) })
     (c .if1 .came)
 
 same-length : tie.Need-same-length Inv-loop μ-loop
-same-length c = c .before .loop .inv .1 .0
+same-length c = c .before .loop .inv .size
 
 returns : tie.Need-returns Inv-loop μ-loop
 returns c =
     let l = c .before .loop in
     let a = c .before .before .before .args in
     let e = kinds-all (a .labels) (a .mask) (l .place) (omega (arith, c .loop-test .left)) in
-    (rw e at (l .inv .1 .1 .0), rw e at (l .inv .1 .1 .1))
+    (rw e at (l .inv .count), rw e at (l .inv .bytes))
 
 pub put-pair-spec : {M : Type 1} → statement M
 put-pair-spec =

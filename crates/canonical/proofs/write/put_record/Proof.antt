@@ -1,8 +1,8 @@
--- Two bytes, then the next in two, then the owner's where there is one.
+-- The first four bytes are written; then, by the owner's cases, nothing or the owner's byte at the place after them.
 use mathlib.Core.Path.{_≡_}
 use native.Mathlib.Omega.{arith}
 use lib.ListN.{length-set}
-use Rattle.fields.specs.Writing.{put}
+use Rattle.fields.specs.promises.Writing.{put}
 use Rattle.fields.proofs.PutLaws.{put-kept}
 use Rattle.canonical.specs.Canonical.{recordBytes}
 use Rattle.canonical.proofs.WriteLaws.{frontBytes, front-size, front-put, missing-put, owner-put, record-most}
@@ -12,9 +12,8 @@ use Rattle.canonical.proofs.write.put_record.Tie as tie
 
 -- the first four bytes
 front : (c : tie.After-put-u16)
-    → c .put-u16 .last .0
-    ≡ put (c .before .before .before .before .before .args .out .now) (c .before .before .before .before .before .args .at)
-    (frontBytes (c .before .before .before .before .before .args .x))
+    → let a = c .before .before .before .before .before .args in
+    c .put-u16 .last .0 ≡ put (a .out .now) (a .at) (frontBytes (a .x))
 front c = front-put _ _ _ (c .before .before .before .before .before .args .x) (omega arith) (c .put-u16 .ensures)
 
 cast-out : tie.Need-cast-out

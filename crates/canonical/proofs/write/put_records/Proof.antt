@@ -1,28 +1,36 @@
--- The records written so far are those of the parties passed.
+-- Invariant: the records of the parties below u are written. Measure: the parties left.
 use mathlib.Core.Path.{_≡_, refl, sym, ap, _∙_}
-use Prim.Native.Nat.{_+_, _-_, _*_, _≤_}
+use mathlib.Core.List.{List}
+use Prim.Native.Nat.{ℕ, _+_, _-_, _*_, _≤_}
 use native.Mathlib.Numerals.{add-one}
 use native.Mathlib.Omega.{arith}
 use lib.ListN.{length}
-use Rattle.fields.specs.Writing.{put}
+use Rattle.fields.specs.promises.Writing.{put}
 use Rattle.fields.proofs.PutLaws.{put-nil, put-kept}
+use Rattle.masks.specs.declared.Table.{Table}
+use Rattle.house_layout.specs.declared.header.Header.{Header}
 use Rattle.canonical.specs.Canonical.{firstOf}
-use Rattle.canonical.specs.Masks.{matterIn}
-use Rattle.canonical.proofs.EntryLaws.{count-few}
+use Rattle.canonical.specs.promises.Masks.{matterIn}
+use Rattle.canonical.proofs.EntryLaws.{count-bounded}
 use Rattle.canonical.proofs.LayoutLaws.{first-step, first-most}
 use Rattle.canonical.proofs.WriteLaws.{recordsTo, records-none, records-length, records-put}
 use borrow.Author.Needs.{needs}
 use Rattle.canonical.proofs.write.put_records.Statement.{statement}
 use Rattle.canonical.proofs.write.put_records.Tie as tie
 
+record RecordsTo (out₀ : List ℕ) (h : Header) (kinds : Table) (out : List ℕ) (u : ℕ) : Type 0 where
+  inside : u ≤ h .parties
+  size : length out ≡ length out₀
+  bytes : out ≡ put out₀ (8 + 2 * h .parties) (recordsTo (matterIn h kinds) u)
+
 abbrev Inv-loop : tie.InvT-loop
-Inv-loop out₀ h kinds f u₀ out u = (u ≤ h .parties) × ((length out ≡ length out₀) × (out ≡ put out₀ (8 + 2 * h .parties) (recordsTo (matterIn h kinds) u)))
+Inv-loop out₀ h kinds f u₀ out u = RecordsTo out₀ h kinds out u
 
 abbrev μ-loop : tie.MeasureT-loop
 μ-loop out₀ h kinds f u₀ out u = h .parties - u
 
 loop-holds : tie.Need-loop-holds Inv-loop μ-loop
-loop-holds c = (omega arith, (refl, rw records-none (sym (put-nil _ _))))
+loop-holds c = record { inside = omega arith; size = refl; bytes = rw records-none (sym (put-nil _ _)) }
 
 mul-put-party : tie.Need-mul-put-party Inv-loop μ-loop
 mul-put-party c = search needs
@@ -49,8 +57,14 @@ put-party-requires c κs =
     let q = F (l .u + 1) (omega arith) in
     let n = ap (firstOf M) (add-one (l .u)) ∙ first-step M (l .u) in
     let m = first-most M (l .u + 1) (omega arith) in
-    let k = count-few M (s .pre .parties) (s .pre .labels) in
-    record { parties = s .pre .parties; labels = s .pre .labels; party = omega arith; first = omega arith; entries = omega arith; last = omega arith; room = omega arith }
+    let k = count-bounded M (s .pre .parties) (s .pre .labels) in
+    record {
+      limits = record { parties = s .pre .parties; labels = s .pre .labels; party = omega arith };
+      first = omega arith;
+      entries = omega arith;
+      last = omega arith;
+      room = omega arith;
+    }
 
 add-u : tie.Need-add-u Inv-loop μ-loop
 add-u c = search needs
@@ -63,21 +77,27 @@ loop-again c =
     let l = c .before .before .before .before .before .before .before .before .loop in
     let s = c .before .before .before .before .before .before .before .before .before .before in
     let M = matterIn (s .args .h) (s .args .kinds) in
-    let F = s .pre .firsts in
+    let first = s .pre .firsts (l .u) (omega arith) in
+    let end = s .pre .firsts (l .u + 1) (omega arith) in
     let base = 8 + 2 * s .args .h .parties in
-    let p = records-put M (s .args .out .now) (l .out) base (l .u) _ _ (omega arith) (F (l .u) (omega arith)) (F (l .u + 1) (omega arith)) (l .inv .1 .1) in
+    let p = records-put M (s .args .out .now) (l .out) base (l .u) _ _ (omega arith) first end (l .inv .bytes) in
     let o = c .before .before .put-party .ensures ∙ p in
-    (omega arith, (put-kept (s .args .out .now) _ base _ o (omega (arith, records-length M (l .u + 1), first-most M (l .u + 1) (omega arith))), o))
+    let most = first-most M (l .u + 1) (omega arith) in
+    record {
+      inside = omega arith;
+      size = put-kept (s .args .out .now) _ base _ o (omega (arith, records-length M (l .u + 1), most));
+      bytes = o;
+    }
 
 same-length : tie.Need-same-length Inv-loop μ-loop
-same-length c = c .before .before .loop .inv .1 .0
+same-length c = c .before .before .loop .inv .size
 
 returns : tie.Need-returns Inv-loop μ-loop
 unfolding recordsTo
 returns c =
     let l = c .before .before .loop in
     let e : l .u ≡ c .before .before .before .before .args .h .parties = omega arith in
-    rw e at (l .inv .1 .1)
+    rw e at (l .inv .bytes)
 
 pub put-records-spec : {M : Type 1} → statement M
 put-records-spec =

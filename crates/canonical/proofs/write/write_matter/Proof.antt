@@ -3,28 +3,28 @@ use mathlib.Core.Path.{_≡_, refl, sym, ap, _∙_}
 use Prim.Native.Nat.{suc, _≤_}
 use native.Mathlib.Omega.{arith}
 use lib.ListN.{length}
-use Rattle.fields.specs.Writing.{put}
+use Rattle.rebac.specs.Matter.{Matter}
+use Rattle.fields.specs.promises.Writing.{put}
 use Rattle.house_layout.specs.Layout.{recordSize}
 use Rattle.canonical.specs.Canonical.{countOf, canonicalOf, writtenEdition}
-use Rattle.canonical.specs.Masks.{matterIn, numbersIn}
+use Rattle.canonical.specs.promises.Masks.{matterIn, numbersIn}
 use Rattle.canonical.specs.declared.reply.FileReply.the-variants.{Wrote}
 use Rattle.fields.proofs.PutLaws.{put-first}
-use Rattle.canonical.proofs.EntryLaws.{count-few}
+use Rattle.canonical.proofs.EntryLaws.{count-bounded}
 use Rattle.canonical.proofs.StandsLaws.{stands-canonical, stands-size, past-last, short-in, fits-in}
 use borrow.Author.Needs.{needs}
 use Rattle.canonical.proofs.write.write_matter.Statement.{statement}
 use Rattle.canonical.proofs.write.write_matter.Tie as tie
 
--- the number past the last record, and that it fits
-last : (c : tie.After-first-numbers)
-    → numbersIn (c .first-numbers .result) (c .before .before .args .h .parties)
-    ≡ suc (countOf (matterIn (c .before .before .args .h) (c .before .before .args .kinds)))
-last c =
-    let a = c .before .before .args in
-    past-last (matterIn (a .h) (a .kinds)) (c .first-numbers .result) (c .first-numbers .ensures)
+-- the matter that is written, the number past its last record, and that it fits
+abbrev matter : tie.After-first-numbers → Matter
+matter c = matterIn (c .before .before .args .h) (c .before .before .args .kinds)
 
-few : (c : tie.After-first-numbers) → countOf (matterIn (c .before .before .args .h) (c .before .before .args .kinds)) ≤ 9216
-few c = count-few (matterIn (c .before .before .args .h) (c .before .before .args .kinds)) (search needs) (search needs)
+last : (c : tie.After-first-numbers) → numbersIn (c .first-numbers .result) (c .before .before .args .h .parties) ≡ suc (countOf (matter c))
+last c = past-last (matter c) (c .first-numbers .result) (c .first-numbers .ensures)
+
+bounded : (c : tie.After-first-numbers) → countOf (matter c) ≤ 9216
+bounded c = count-bounded (matter c) (search needs) (search needs)
 
 first-numbers-requires : tie.Need-first-numbers-requires
 first-numbers-requires c κs = search needs
@@ -45,10 +45,10 @@ add-size : tie.Need-add-size
 add-size c = search needs
 
 mul-size-2 : tie.Need-mul-size-2
-mul-size-2 c = omega (arith, last (c .before), few (c .before))
+mul-size-2 c = omega (arith, last (c .before), bounded (c .before))
 
 add-size-2 : tie.Need-add-size-2
-add-size-2 c = omega (arith, last (c .before), few (c .before))
+add-size-2 c = omega (arith, last (c .before), bounded (c .before))
 
 returns : tie.Need-returns
 unfolding recordSize

@@ -1,4 +1,4 @@
--- A count up to its end.
+-- Invariant: at most 31 symbols were read. Measure: the symbols left.
 use Prim.Native.Nat.{_-_, _≤_}
 use borrow.Author.Needs.{needs}
 use Rattle.cases.proofs.calls.word_of.Statement.{statement}

@@ -1,6 +1,6 @@
 -- An accepted file stands for its matter.
 use mathlib.Core.Path.{sym, _∙_}
-use Rattle.graph.specs.Archive.{matterOf}
+use Rattle.graph.specs.FileMatter.{matterOf}
 use borrow.Author.Needs.{needs}
 use Rattle.cases.proofs.listed.show_text.Statement.{statement}
 use Rattle.cases.proofs.listed.show_text.Tie as tie
@@ -30,7 +30,10 @@ slice-aggregate-show-text-in : tie.Need-slice-aggregate-show-text-in
 slice-aggregate-show-text-in c = search needs
 
 show-text-in-requires : tie.Need-show-text-in-requires
-show-text-in-requires c κs = (matterOf (c .before .before .before .before .before .before .before .before .before .before .args .file .now), c .before .before .before .before .before .load .ensures .archive (sym (c .before .before .before .before .before .load .ensures .reply) ∙ c .before .before .before .enum-told .given .1))
+show-text-in-requires c κs =
+    let t = c .before .before .before .before .before in
+    let accepted = sym (t .load .ensures .reply) ∙ c .before .before .before .enum-told .given .1 in
+    (matterOf (t .before .before .before .before .before .args .file .now), t .load .ensures .archive accepted)
 
 returns : tie.Need-returns
 returns c = search needs

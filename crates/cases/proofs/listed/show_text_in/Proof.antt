@@ -3,6 +3,7 @@ use mathlib.Core.Path.{sym, _∙_}
 use native.Mathlib.Omega.{arith}
 use borrow.Author.Tests.{not-false}
 use lib.Seq.{length-take-le}
+use Rattle.fields.specs.Numbers.{Bytes}
 use Rattle.rules.proofs.PermitLaws.{checked-list}
 use borrow.Author.Needs.{needs}
 use Rattle.cases.proofs.listed.show_text_in.Statement.{statement}
@@ -22,10 +23,11 @@ returns-2 c = search needs
 
 list-text-requires : tie.Need-list-text-requires
 list-text-requires c κs =
-    let x = c .before .before .before .before .before .before in (
-      checked-list (x .pre .0) (x .args .a) (x .pre .1) (x .args .list .now) (λ i. omega (arith, c .before .before .before .before .before .shared-slice-known .given i)) (sym (c .before .before .before .check-list .ensures) ∙ not-false (c .before .before .before .check-list .result) (c .before .before .if1 .left)),
-      omega (arith, c .before .if2 .left),
-    )
+    let t = c .before .before .before in
+    let x = t .before .before .before in
+    let passed = sym (t .check-list .ensures) ∙ not-false (t .check-list .result) (c .before .before .if1 .left) in
+    let bytes : Bytes (x .args .list .now) = λ i. omega (arith, t .before .before .shared-slice-known .given i) in
+    (checked-list (x .pre .0) (x .args .a) (x .pre .1) (x .args .list .now) bytes passed, omega (arith, c .before .if2 .left))
 
 same-length : tie.Need-same-length
 same-length c = search needs

@@ -1,4 +1,4 @@
--- A count up to the length.
+-- Invariant: at most the slice's bytes were shown. Measure: the bytes left.
 use Prim.Native.Nat.{_-_, _≤_}
 use lib.ListN.{length}
 use borrow.Author.Needs.{needs}

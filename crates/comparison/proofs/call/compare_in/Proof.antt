@@ -4,7 +4,7 @@ use mathlib.Core.Bool.{true}
 use native.Mathlib.Omega.{arith}
 use borrow.Author.Tests.{not-true, not-false}
 use Rattle.fields.specs.Numbers.{Bytes}
-use Rattle.rebac.specs.Options.{isSome}
+use Rattle.rebac.specs.promises.Options.{isSome}
 use Rattle.rules.proofs.PermitLaws.{archiveList}
 use Rattle.comparison.proofs.CompareLaws.{no-list, checked-given, the-answer}
 use Rattle.comparison.proofs.call.compare_in.Statement.{statement}

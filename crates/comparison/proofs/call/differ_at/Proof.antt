@@ -4,8 +4,8 @@ use mathlib.Core.Bool.{true}
 use borrow.Author.Needs.{needs}
 use borrow.Author.Tests.{not-true, not-false}
 use Rattle.graph.proofs.LegalLaws.{pair-of}
-use Rattle.mining.specs.Pairs.{isPairAt}
-use Rattle.comparison.proofs.CompareLaws.{given-few, no-pair, pair-differs}
+use Rattle.mining.specs.promises.Pairs.{isPairAt}
+use Rattle.comparison.proofs.CompareLaws.{given-bounded, no-pair, pair-differs}
 use Rattle.comparison.proofs.call.differ_at.Statement.{statement}
 use Rattle.comparison.proofs.call.differ_at.Tie as tie
 
@@ -35,7 +35,7 @@ has-requires c κs = search needs
 meets-list-requires : tie.Need-meets-list-requires
 meets-list-requires c κs =
     let w = c .before .before .before .before .before .before .pre .1 in
-    (given-few w, (pair-of _ _ _ (paired (c .before .before .before)), (w .1 .0, w .1 .1 .listed)))
+    record { parties = given-bounded w; isPair = pair-of _ _ _ (paired (c .before .before .before)); list = (w .1 .0, w .1 .1 .listed) }
 
 returns-2 : tie.Need-returns-2
 returns-2 c =

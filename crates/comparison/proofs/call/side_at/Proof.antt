@@ -2,7 +2,7 @@
 use mathlib.Core.Path.{sym, ap, _∙_}
 use mathlib.Core.Bool.{Bool}
 use borrow.Author.Needs.{needs}
-use Rattle.mining.specs.Pairs.{pairAt}
+use Rattle.mining.specs.promises.Pairs.{pairAt}
 use Rattle.comparison.specs.Compare.{sideOf}
 use Rattle.comparison.proofs.call.side_at.Statement.{statement}
 use Rattle.comparison.proofs.call.side_at.Tie as tie

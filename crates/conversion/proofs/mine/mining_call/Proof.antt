@@ -1,19 +1,11 @@
--- The file, then the answer for its matter.
-use mathlib.Core.Path.{_≡_, refl, sym, _∙_}
-use borrow.Author.Needs.{needs}
-use Rattle.house_file.specs.Check.{checkOf}
-use Rattle.house_layout.specs.declared.reply.Check.the-variants.{Accepted}
-use Rattle.graph.specs.Archive.{matterOf, Shows}
+-- The file's refusals come first, and keep scratch; an accepted file's archive stands for its matter.
+use mathlib.Core.Path.{refl, sym}
+use Rattle.graph.proofs.CallLaws.{load-check, load-shows}
 use Rattle.conversion.specs.Calls.{miningCall}
 use Rattle.conversion.proofs.AnswerLaws.{file-keeps}
+use borrow.Author.Needs.{needs}
 use Rattle.conversion.proofs.mine.mining_call.Statement.{statement}
 use Rattle.conversion.proofs.mine.mining_call.Tie as tie
-
-accepted : (c : tie.After-enum-told) → checkOf (c .before .before .before .before .before .before .args .file .now) ≡ Accepted
-accepted c = sym (c .before .before .load .ensures .reply) ∙ c .enum-told .given .1
-
-shown : (c : tie.After-enum-told) → Shows (matterOf (c .before .before .before .before .before .before .args .file .now)) (c .before .before .load .result .archive)
-shown c = c .before .before .load .ensures .archive (accepted c)
 
 load-requires : tie.Need-load-requires
 load-requires c κs = search needs
@@ -25,14 +17,15 @@ enum-told : tie.Need-enum-told
 enum-told c = search needs
 
 mine-in-requires : tie.Need-mine-in-requires
-mine-in-requires c κs = (matterOf (c .before .before .before .before .before .before .before .before .before .args .file .now), shown (c .before .before .before))
+mine-in-requires c κs =
+    let t = c .before .before .before in
+    (_, load-shows (t .before .before .load .ensures) (t .enum-told .given .1))
 
 returns : tie.Need-returns
 unfolding miningCall
 returns c =
-    let a = c .before .before .before .before .before .before .before .args in
-    let e = sym (c .before .before .before .load .ensures .reply) ∙ c .before .reply .given .1 in
-    rw e (refl, (sym (file-keeps (a .file .now) _ e (a .scratch .now)), refl))
+    let e = load-check (c .before .before .before .load .ensures) (c .before .reply .given .1) in
+    rw e (refl, (sym (file-keeps _ _ e _), refl))
 
 same-length : tie.Need-same-length
 same-length c = search needs
@@ -43,9 +36,10 @@ same-length-2 c = search needs
 returns-2 : tie.Need-returns-2
 unfolding miningCall
 returns-2 c =
-    let d = c .before .before .before .before .before .before .before .before in
-    let q = c .before .before .before .before .mine-in .ensures (matterOf (d .before .before .before .before .before .before .args .file .now)) (shown d) in
-    rw (accepted d) q
+    let t = c .before .before .before .before .before .before .before .before in
+    let l = t .before .before .load .ensures in
+    let e = t .enum-told .given .1 in
+    rw (load-check l e) (c .before .before .before .before .mine-in .ensures _ (load-shows l e))
 
 pub mining-call-spec : {M : Type 1} → statement M
 mining-call-spec =

@@ -1,9 +1,12 @@
 -- Byte after byte, each by its bit.
+-- Invariant: the bytes before place k are those of their bits, the others as they were. Measure: the places left.
 use mathlib.Core.Path.{_≡_, ap, _∙_}
-use Prim.Native.Nat.{_-_, _≤_}
+use mathlib.Core.List.{List}
+use Prim.Native.Nat.{ℕ, _-_, _≤_}
 use native.Mathlib.Omega.{arith}
 use lib.ListN.{length}
-use Rattle.fields.specs.Writing.{put}
+use Rattle.masks.specs.declared.Row.{Row}
+use Rattle.fields.specs.promises.Writing.{put}
 use Rattle.fields.proofs.PutLaws.{put-length}
 use Rattle.conversion.specs.Calls.{oneIf}
 use Rattle.conversion.proofs.TableLaws.{bytesTo, bytes-length, table-start, table-more, table-end}
@@ -15,6 +18,10 @@ Inv-loop scratch₀ marks k₀ scratch k = (k ≤ 1024) × (scratch ≡ put scra
 
 abbrev μ-loop : tie.MeasureT-loop
 μ-loop scratch₀ marks k₀ scratch k = 1024 - k
+
+-- the length stays, with the first k bytes written
+kept : (b out : List ℕ) (r : Row) (k : ℕ) → 1024 ≤ length b → k ≤ 1024 → out ≡ put b 0 (bytesTo r k) → length out ≡ length b
+kept b out r k room h e = ap length e ∙ put-length b 0 (bytesTo r k) (omega (arith, bytes-length r k))
 
 loop-holds : tie.Need-loop-holds Inv-loop μ-loop
 loop-holds c = (omega arith, table-start _ _)
@@ -38,7 +45,7 @@ slice-write-scratch : tie.Need-slice-write-scratch Inv-loop μ-loop
 slice-write-scratch c =
     let x = c .before .before .before .before .before .before in
     let o = c .before .before .before .before .loop in
-    let l : length (o .scratch) ≡ length (x .args .scratch .now) = ap length (o .inv .1) ∙ put-length (x .args .scratch .now) 0 (bytesTo (x .args .t2) (o .k)) (omega (arith, bytes-length (x .args .t2) (o .k), x .pre, o .inv .0)) in
+    let l = kept (x .args .scratch .now) (o .scratch) (x .args .t2) (o .k) (x .pre) (o .inv .0) (o .inv .1) in
     omega (arith, l, x .pre, c .before .before .before .loop-test .taken)
 
 add-k : tie.Need-add-k Inv-loop μ-loop
@@ -51,14 +58,17 @@ loop-again : tie.Need-loop-again Inv-loop μ-loop
 loop-again c =
     let x = c .before .before .before .before .before .before in
     let o = c .before .before .before .before .loop in
-    (omega (arith, c .before .before .before .loop-test .taken), table-more (x .args .scratch .now) (o .scratch) (x .args .t2) (o .k) (c .one-if .result) (omega (arith, c .before .before .before .loop-test .taken, x .pre)) (o .inv .1) (c .one-if .ensures ∙ ap oneIf (c .before .has .ensures)))
+    let h = c .before .before .before .loop-test .taken in (
+      omega (arith, h),
+      table-more (x .args .scratch .now) (o .scratch) (x .args .t2) (o .k) (c .one-if .result) (omega (arith, h, x .pre)) (o .inv .1)
+          (c .one-if .ensures ∙ ap oneIf (c .before .has .ensures)),
+    )
 
 same-length : tie.Need-same-length Inv-loop μ-loop
 same-length c =
     let x = c .before .before .before in
     let o = c .before .loop in
-    let l : length (o .scratch) ≡ length (x .args .scratch .now) = ap length (o .inv .1) ∙ put-length (x .args .scratch .now) 0 (bytesTo (x .args .t2) (o .k)) (omega (arith, bytes-length (x .args .t2) (o .k), x .pre, o .inv .0)) in
-    l
+    kept (x .args .scratch .now) (o .scratch) (x .args .t2) (o .k) (x .pre) (o .inv .0) (o .inv .1)
 
 returns : tie.Need-returns Inv-loop μ-loop
 returns c =

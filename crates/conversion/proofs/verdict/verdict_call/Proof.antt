@@ -1,11 +1,9 @@
--- The file, then the verdict of its archive, which is its matter's.
-use mathlib.Core.Path.{_≡_, sym, _∙_}
-use borrow.Author.Needs.{needs}
-use Rattle.house_file.specs.Check.{checkOf}
-use Rattle.house_layout.specs.declared.reply.Check.the-variants.{Accepted}
-use Rattle.graph.specs.Archive.{matterOf}
+-- The file's refusals come first; an accepted file's archive stands for its matter, and its verdict is the matter's.
+use mathlib.Core.Path.{_∙_}
+use Rattle.graph.proofs.CallLaws.{load-check, load-shows}
 use Rattle.conversion.specs.Calls.{verdictCall}
 use Rattle.conversion.proofs.AnswerLaws.{verdict-shown}
+use borrow.Author.Needs.{needs}
 use Rattle.conversion.proofs.verdict.verdict_call.Statement.{statement}
 use Rattle.conversion.proofs.verdict.verdict_call.Tie as tie
 
@@ -18,24 +16,21 @@ enum-known-reply c = search needs
 enum-told : tie.Need-enum-told
 enum-told c = search needs
 
-accepted : (c : tie.After-enum-told) → checkOf (c .before .before .before .before .args .file .now) ≡ Accepted
-accepted c = sym (c .before .before .load .ensures .reply) ∙ c .enum-told .given .1
-
-judge-requires : tie.Need-judge-requires
-judge-requires c κs = (matterOf (c .before .before .before .before .before .args .file .now), c .before .before .before .load .ensures .archive (accepted (c .before)))
+verdict-in-requires : tie.Need-verdict-in-requires
+verdict-in-requires c κs = (_, load-shows (c .before .before .before .load .ensures) (c .before .enum-told .given .1))
 
 returns : tie.Need-returns
 unfolding verdictCall
-returns c =
-    let e = sym (c .before .before .before .load .ensures .reply) ∙ c .before .reply .given .1 in
-    rw e
+returns c = rw (load-check (c .before .before .before .load .ensures) (c .before .reply .given .1))
 
 returns-2 : tie.Need-returns-2
 unfolding verdictCall
 returns-2 c =
-    let e = accepted (c .before .before) in
-    rw e (c .judge .ensures ∙ verdict-shown (matterOf (c .before .before .before .before .before .before .args .file .now)) _ (c .before .before .before .before .load .ensures .archive e))
+    let t = c .before .before in
+    let l = t .before .before .load .ensures in
+    let e = t .enum-told .given .1 in
+    rw (load-check l e) (c .verdict-in .ensures ∙ verdict-shown (load-shows l e))
 
 pub verdict-call-spec : {M : Type 1} → statement M
 verdict-call-spec =
-    tie.close (tie.spec load-requires enum-known-reply enum-told judge-requires returns returns-2)
+    tie.close (tie.spec load-requires enum-known-reply enum-told verdict-in-requires returns returns-2)

@@ -1,10 +1,9 @@
--- The digits of n / 10, then the last one.
-use mathlib.Core.Path.{ap}
+-- The call writes the digits of n / 10, then the last digit is stored at the place after them. Invariant: the contract alone. Measure: n.
 use native.Mathlib.Omega.{arith}
 use lib.ListN.{length}
 use borrow.Author.Needs.{needs}
-use Rattle.fields.proofs.DecimalLaws.{decimal-small, decimal-room, decimal-one, decimal-next}
-use Prim.Native.Nat.{ℕ, _+_, _<_, _≤_}
+use Rattle.fields.proofs.DecimalLaws.{decimal-room, one-fits, last-fits, decimal-one, decimal-next}
+use Prim.Native.Nat.{ℕ, _<_}
 use borrow.Fn.Kinds.{In}
 use borrow.Fn.PlainCycle.{Measures, is, falls, and}
 use Rattle.fields.proofs.decimal.put_decimal.Reads as put-decimal
@@ -40,7 +39,7 @@ put-decimal-slice-write-out : (t : ℕ) → put-decimal-lts.Need-slice-write-out
   put-decimal-below t,
   put-decimal.Post,
 ) (put-decimal-at t) put-decimal.Post
-put-decimal-slice-write-out t c = omega (arith, c .before .before .pre .1, ap length (decimal-small (c .before .before .args .n) (c .if1 .taken)))
+put-decimal-slice-write-out t c = one-fits _ _ _ (c .if1 .taken) (c .before .before .pre .1)
 
 put-decimal-add-result : (t : ℕ) → put-decimal-lts.Need-add-result (
   put-decimal-below t,
@@ -60,8 +59,7 @@ put-decimal-returns : (t : ℕ) → put-decimal-lts.Need-returns (
 ) (put-decimal-at t) put-decimal.Post
 put-decimal-returns t c =
     let a = c .before .before .args in
-    let l : a .at < length (a .out .now) = omega (arith, c .before .before .pre .1, ap length (decimal-small (a .n) (c .if1 .taken))) in
-    decimal-one (a .out .now) (a .at) (a .n) (c .if1 .taken) l
+    decimal-one (a .out .now) (a .at) (a .n) (c .if1 .taken) (one-fits _ _ _ (c .if1 .taken) (c .before .before .pre .1))
 
 put-decimal-put-decimal-requires : (t : ℕ) → put-decimal-lts.Need-put-decimal-requires (
   put-decimal-below t,
@@ -89,17 +87,19 @@ put-decimal-slice-write-out-2 : (t : ℕ) → put-decimal-lts.Need-slice-write-o
   put-decimal.Post,
 ) (put-decimal-at t) put-decimal.Post
 put-decimal-slice-write-out-2 t c =
-    let p = c .before .before .before .before .before .before in
-    omega (arith, p .pre .1, decimal-room (p .args .n) (c .before .before .before .before .if1 .left), c .before .before .put-decimal .ensures .place)
+    let called = c .before .before in
+    let start = called .before .before .before .before in
+    omega (arith, last-fits _ _ _ _ (called .before .before .if1 .left) (start .pre .1) (called .put-decimal .ensures .place))
 
 put-decimal-add-result-2 : (t : ℕ) → put-decimal-lts.Need-add-result-2 (
   put-decimal-below t,
   put-decimal.Post,
 ) (put-decimal-at t) put-decimal.Post
 put-decimal-add-result-2 t c =
-    let p = c .before .before .before .before .before .before in
-    let l : c .before .before .put-decimal .result + 1 ≤ length (p .args .out .now) =
-    omega (arith, p .pre .1, decimal-room (p .args .n) (c .before .before .before .before .if1 .left), c .before .before .put-decimal .ensures .place) in
+    let called = c .before .before in
+    let start = called .before .before .before .before in
+    let l : called .put-decimal .result < length (start .args .out .now) =
+    last-fits _ _ _ _ (called .before .before .if1 .left) (start .pre .1) (called .put-decimal .ensures .place) in
     search needs
 
 put-decimal-same-length-2 : (t : ℕ) → put-decimal-lts.Need-same-length-2 (
@@ -113,10 +113,11 @@ put-decimal-returns-2 : (t : ℕ) → put-decimal-lts.Need-returns-2 (
   put-decimal.Post,
 ) (put-decimal-at t) put-decimal.Post
 put-decimal-returns-2 t c =
-    let p = c .before .before .before .before .before .before in
-    let h = c .before .before .before .before .if1 .left in
-    decimal-next (p .args .out .now) (p .args .at) (p .args .n) _ _ h (c .before .before .put-decimal .ensures)
-    (omega (arith, p .pre .1, decimal-room (p .args .n) h, c .before .before .put-decimal .ensures .place))
+    let called = c .before .before in
+    let start = called .before .before .before .before in
+    let h = called .before .before .if1 .left in
+    let w = called .put-decimal .ensures in
+    decimal-next (start .args .out .now) (start .args .at) (start .args .n) _ _ h w (last-fits _ _ _ _ h (start .pre .1) (w .place))
 
 pub +put-decimal-spec : {M : Type 1} → statement M
 +put-decimal-spec = close μ-put-decimal λ t. put-decimal-lts.spec (

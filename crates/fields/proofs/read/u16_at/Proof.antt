@@ -1,4 +1,4 @@
--- Two bytes, each below 256.
+-- The low byte and 256 times the high one, each below 256.
 use native.Mathlib.Omega.{arith}
 use Rattle.fields.specs.Numbers.{u16At}
 use borrow.Author.Needs.{needs}
@@ -28,7 +28,10 @@ add-result c = omega (arith, c .wide2 .ensures .1, c .before .before .wide .ensu
 
 returns : tie.Need-returns
 unfolding u16At
-returns c = (rw (c .before .before .wide .ensures .0, c .wide2 .ensures .0), omega (arith, c .wide2 .ensures .1, c .before .before .wide .ensures .1))
+returns c =
+    let low = c .before .before .wide .ensures in
+    let high = c .wide2 .ensures in
+    (rw (low .0, high .0), omega (arith, high .1, low .1))
 
 pub u16-at-spec : {M : Type 1} → statement M
 u16-at-spec =

@@ -1,23 +1,29 @@
--- The bytes written so far.
+-- Invariant: the first i bytes of s are written from `at` on, and the output keeps its length. Measure: the bytes left.
 use mathlib.Core.Path.{_≡_, refl, sym, ap, _∙_}
-use Prim.Native.Nat.{_-_, _≤_}
+use mathlib.Core.List.{List}
+use Prim.Native.Nat.{ℕ, _-_, _≤_}
 use native.Mathlib.Omega.{arith}
 use lib.ListN.{length, take, length-set}
 use lib.Seq.{take-all}
-use Rattle.fields.specs.Writing.{put}
+use Rattle.fields.specs.promises.Writing.{put}
 use Rattle.fields.proofs.PutLaws.{put-nil, put-take}
 use borrow.Author.Needs.{needs}
 use Rattle.fields.proofs.write.put_bytes.Statement.{statement}
 use Rattle.fields.proofs.write.put_bytes.Tie as tie
 
+record WrittenTo (out₀ : List ℕ) (at : ℕ) (s out : List ℕ) (i : ℕ) : Type 0 where
+  inside : i ≤ length s
+  size : length out ≡ length out₀
+  bytes : out ≡ put out₀ at (take i s)
+
 abbrev Inv-loop : tie.InvT-loop
-Inv-loop out₀ at s i₀ out i = (i ≤ length s) × ((length out ≡ length out₀) × (out ≡ put out₀ at (take i s)))
+Inv-loop out₀ at s i₀ out i = WrittenTo out₀ at s out i
 
 abbrev μ-loop : tie.MeasureT-loop
 μ-loop out₀ at s i₀ out i = length s - i
 
 loop-holds : tie.Need-loop-holds Inv-loop μ-loop
-loop-holds c = (omega arith, (refl, sym (put-nil _ _)))
+loop-holds c = record { inside = omega arith; size = refl; bytes = sym (put-nil _ _) }
 
 shared-slice-read-out : tie.Need-shared-slice-read-out Inv-loop μ-loop
 shared-slice-read-out c = search needs
@@ -38,7 +44,11 @@ loop-again : tie.Need-loop-again Inv-loop μ-loop
 loop-again c =
     let l = c .before .before .loop in
     let s = c .before .before .before .args .s .now in
-    (omega arith, (length-set (l .out) _ _ ∙ l .inv .1 .0, rw (l .inv .1 .1) (put-take _ _ s (l .i) (omega arith) (omega arith))))
+    record {
+      inside = omega arith;
+      size = length-set (l .out) _ _ ∙ l .inv .size;
+      bytes = rw (l .inv .bytes) (put-take _ _ s (l .i) (omega arith) (omega arith));
+    }
 
 add-result : tie.Need-add-result Inv-loop μ-loop
 add-result c = search needs
@@ -49,8 +59,8 @@ same-length c = search needs
 returns : tie.Need-returns Inv-loop μ-loop
 returns c =
     let l = c .before .loop in
-    let s = c .before .before .args .s .now in
-    record { bytes = l .inv .1 .1 ∙ ap (put (c .before .before .args .out .now) (c .before .before .args .at)) (take-all (l .i) s (omega arith)); place = refl }
+    let a = c .before .before .args in
+    record { bytes = l .inv .bytes ∙ ap (put (a .out .now) (a .at)) (take-all (l .i) (a .s .now) (omega arith)); place = refl }
 
 pub put-bytes-spec : {M : Type 1} → statement M
 put-bytes-spec =

@@ -1,4 +1,4 @@
--- Two bytes, low byte first.
+-- Two bytes stored one after another, the low one first, are the field written at the place.
 use native.Mathlib.Omega.{arith}
 use lib.ListN.{length-set}
 use Rattle.fields.specs.Numbers.{u16Bytes}

@@ -1,4 +1,4 @@
--- No mark passed so far is 0.
+-- Invariant: no mark below place i is 0. Measure: the records left.
 use mathlib.Core.Path.{_≡_, sym}
 use Prim.Native.Nat.{ℕ, _-_, _≤_, _<_}
 use borrow.Author.Count.{below-more}
@@ -22,7 +22,10 @@ element-copy-out-if1 : tie.Need-element-copy-out-if1 Inv-loop μ-loop
 element-copy-out-if1 c = search needs
 
 returns : tie.Need-returns Inv-loop μ-loop
-returns c = λ seen m. sym (one-missing (c .before .before .before .before .args .marks .now) seen m (c .before .before .before .before .args .records) (c .before .before .before .loop .i) (c .before .before .loop-test .taken) (c .if1 .taken))
+returns c =
+    let l = c .before .before .before in
+    let a = l .before .args in
+    λ seen m. sym (one-missing (a .marks .now) seen m (a .records) (l .loop .i) (c .before .before .loop-test .taken) (c .if1 .taken))
 
 add-i : tie.Need-add-i Inv-loop μ-loop
 add-i c = search needs
@@ -36,8 +39,9 @@ loop-again c = (search needs, below-more _ _ (c .before .before .before .loop .i
 returns-2 : tie.Need-returns-2 Inv-loop μ-loop
 returns-2 c =
     let l = c .before .loop in
-    let e : l .i ≡ c .before .before .args .records = omega arith in
-    λ seen m. sym (none-missing (c .before .before .args .marks .now) seen m (c .before .before .args .records) (rw e at (l .inv .1)))
+    let a = c .before .before .args in
+    let e : l .i ≡ a .records = omega arith in
+    λ seen m. sym (none-missing (a .marks .now) seen m (a .records) (rw e at (l .inv .1)))
 
 pub all-reached-spec : {M : Type 1} → statement M
 all-reached-spec =

@@ -1,4 +1,4 @@
--- The mask is filled place by place.
+-- Invariant: the mask is filled for the parties below v. Measure: the places left.
 use mathlib.Core.Path.{_≡_, sym, _∙_}
 use mathlib.Core.Logic.{⊎-elim}
 use mathlib.Core.Bool.{Bool}
@@ -6,8 +6,8 @@ use Prim.Native.Nat.{ℕ, _-_, _≤_}
 use borrow.Author.Needs.{needs, length-unmapped}
 use lib.ListN.{length, List·getD-eq-default}
 use native.Mathlib.Omega.{arith}
-use Rattle.masks.specs.Mask.{testBit}
-use Rattle.masks.specs.Table.{maskIn}
+use Rattle.masks.specs.promises.Mask.{testBit}
+use Rattle.masks.specs.promises.Table.{maskIn}
 use Rattle.masks.specs.declared.Row.{Row}
 use Rattle.masks.proofs.MaskLaws.{Filled, filled-none, filled-with, filled-without, filled-all, zero-bit}
 use Rattle.house_file.proofs.decode.permit_mask.Statement.{statement}
@@ -50,11 +50,12 @@ loop-less c = search needs
 loop-again : tie.Need-loop-again Inv-loop μ-loop
 loop-again c =
     let l = c .before .before .before .before .loop in
-    let row = c .before .before .before .before .before .args .t1 in (
+    let row = c .before .before .before .before .before .args .t1 in
+    let said = sym (c .before .has .ensures) in (
       search needs,
       ⊎-elim
-          (λ w. rw (w .2 ∙ w .1 .ensures) (filled-with (permits row) (l .v) (l .mask) (l .inv .1) (sym (c .before .has .ensures) ∙ w .0 .taken)))
-          (λ w. rw (w .1) (filled-without (permits row) (l .v) (l .mask) (l .inv .1) (sym (c .before .has .ensures) ∙ w .0 .left)))
+          (λ w. rw (w .2 ∙ w .1 .ensures) (filled-with (permits row) (l .v) (l .mask) (l .inv .1) (said ∙ w .0 .taken)))
+          (λ w. rw (w .1) (filled-without (permits row) (l .v) (l .mask) (l .inv .1) (said ∙ w .0 .left)))
           (c .if1 .came),
     )
 
@@ -64,7 +65,8 @@ returns c =
     let row = c .before .before .args .t1 in
     let n : length (row .masks) ≡ 32 = length-unmapped ℕ (row .masks) 32 (c .before .before .good .0 .1 .1 .0 .1 .0 .1) in
     let e : l .v ≡ 32 = omega arith in
-    filled-all (permits row) 32 (l .mask) (rw e at (l .inv .1)) (λ x h. rw (List·getD-eq-default (row .masks) 0 {n = x} (omega arith)) (zero-bit 31))
+    filled-all (permits row) 32 (l .mask) (rw e at (l .inv .1))
+    (λ x h. rw (List·getD-eq-default (row .masks) 0 {n = x} (omega arith)) (zero-bit 31))
 
 pub permit-mask-spec : {M : Type 1} → statement M
 permit-mask-spec =

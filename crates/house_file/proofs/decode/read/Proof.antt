@@ -1,12 +1,14 @@
 -- The first tests have their laws; then the chains, and the permits from the kinds.
 use mathlib.Core.Path.{_≡_, sym, _∙_}
-use Prim.Native.Nat.{_+_, _*_, _≤_}
+use mathlib.Core.List.{List}
+use Prim.Native.Nat.{ℕ, _+_, _*_, _≤_}
 use mathlib.Core.Bool.{true}
 use native.Mathlib.Omega.{arith}
 use borrow.Author.Tests.{not-true, not-false}
 use lib.ListN.{length}
 use Rattle.house_layout.specs.Layout.{headerOf, labelsOf, sizeOf, permitKind}
 use Rattle.house_layout.specs.Fields.{fieldsInRange}
+use Rattle.house_layout.specs.declared.header.Header.{Header}
 use Rattle.house_file.specs.Check.{checkOf, chainsCheck}
 use Rattle.house_file.specs.Meaning.{isPermitted}
 use Rattle.house_layout.proofs.LayoutLaws.{size-most}
@@ -17,33 +19,41 @@ use borrow.Author.Needs.{needs}
 use Rattle.house_file.proofs.decode.read.Statement.{statement}
 use Rattle.house_file.proofs.decode.read.Tie as tie
 
--- the header's numbers as they were read, and their fields in range
-numbers : (c : tie.Else2) → c .before .before .read-header .result ≡ headerOf (c .before .before .before .before .before .args .file .now)
+-- the file, and its header's numbers as they were read, with their fields in range
+abbrev file : tie.Else2 → List ℕ
+file c = c .before .before .before .before .before .args .file .now
+
+numbers : (c : tie.Else2) → c .before .before .read-header .result ≡ headerOf (file c)
 numbers c = c .before .before .read-header .ensures
 
-in-range : (c : tie.Else2) → fieldsInRange (c .before .before .before .before .before .args .file .now) ≡ true
+in-range : (c : tie.Else2) → fieldsInRange (file c) ≡ true
 in-range c = sym (c .before .fields-in-range .ensures) ∙ not-false (c .before .fields-in-range .result) (c .if2 .left)
 
 -- so they are small
-small : (c : tie.Else2) → let h = c .before .before .read-header .result in (h .parties ≤ 32) × ((h .labels ≤ 8) × (h .records ≤ 8928))
-small c = let r = fields-right _ (in-range c) in rw (numbers c) (r .parties .1, (r .labels .1, r .records))
+record Small (h : Header) : Type 0 where
+  parties : h .parties ≤ 32
+  labels : h .labels ≤ 8
+  records : h .records ≤ 8928
+
+small : (c : tie.Else2) → Small (c .before .before .read-header .result)
+small c =
+    let r = fields-right _ (in-range c) in
+    rw (numbers c) (record { parties = r .parties .1; labels = r .labels .1; records = r .records })
 
 -- the length that they say
 said : (c : tie.After-record-size) → let e = c .before .before in let h = e .before .before .read-header .result in
     8 + 2 * h .parties + c .record-size .result * h .records ≡ sizeOf (e .before .before .before .before .before .args .file .now)
 said c = rw (c .record-size .ensures, numbers (c .before .before))
 
-few : (c : tie.After-record-size) → c .record-size .result * c .before .before .before .before .read-header .result .records ≤ 5 * 8928
-few c =
+bounded : (c : tie.After-record-size) → c .record-size .result * c .before .before .before .before .read-header .result .records ≤ 5 * 8928
+bounded c =
     let h = c .before .before .before .before .read-header .result in
-    rw (c .record-size .ensures) (omega (arith, size-most (h .edition) (h .records), small (c .before .before) .1 .1))
+    rw (c .record-size .ensures) (omega (arith, size-most (h .edition) (h .records), small (c .before .before) .records))
 
-sized : (c : tie.Else3)
-    → let f = c .before .before .before .before .before .before .before .before .before .args .file .now in length f ≡ sizeOf f
+sized : (c : tie.Else3) → let f = file (c .before .before .before .before) in length f ≡ sizeOf f
 sized c = c .if3 .left ∙ said (c .before .before)
 
-checked : (c : tie.Else3)
-    → let f = c .before .before .before .before .before .before .before .before .before .args .file .now in checkOf f ≡ chainsCheck f
+checked : (c : tie.Else3) → let f = file (c .before .before .before .before) in checkOf f ≡ chainsCheck f
 checked c =
     let e = c .before .before .before .before in
     check-chains _ (e .before .before .before .if1 .left) (in-range e) (sized c)
@@ -74,19 +84,19 @@ returns-2 c =
     record { reply = c .refused2 .ensures ∙ sym w; house = λ a. refused-not w a }
 
 mul-if3 : tie.Need-mul-if3
-mul-if3 c = omega (arith, small (c .before) .0)
+mul-if3 c = omega (arith, small (c .before) .parties)
 
 add-if3 : tie.Need-add-if3
-add-if3 c = omega (arith, small (c .before) .0)
+add-if3 c = omega (arith, small (c .before) .parties)
 
 record-size-requires : tie.Need-record-size-requires
 record-size-requires c κs = search needs
 
 mul-if3-2 : tie.Need-mul-if3-2
-mul-if3-2 c = omega (arith, few (c .before))
+mul-if3-2 c = omega (arith, bounded (c .before))
 
 add-if3-2 : tie.Need-add-if3-2
-add-if3-2 c = omega (arith, few (c .before), small (c .before .before .before) .0)
+add-if3-2 c = omega (arith, bounded (c .before), small (c .before .before .before) .parties)
 
 refused-requires-3 : tie.Need-refused-requires-3
 refused-requires-3 c κs = search needs
@@ -101,7 +111,8 @@ returns-3 c =
 read-chains-requires : tie.Need-read-chains-requires
 read-chains-requires c κs =
     let e = c .before .before .before .before in
-    record { numbers = numbers e; parties = small e .0; labels = small e .1 .0; records = small e .1 .1; size = sized c }
+    let s = small e in
+    record { numbers = numbers e; parties = s .parties; labels = s .labels; records = s .records; size = sized c }
 
 enum-known-reply : tie.Need-enum-known-reply
 enum-known-reply c = search needs
@@ -130,13 +141,12 @@ returns-5 c =
     let k = checked (c .before .before .before .before .before) in
     let w = k ∙ sym (r .reply) ∙ c .before .before .enum-told .given .1 in
     let e = c .before .before .before .before .before .before .before .before .before in
-    let f = e .before .before .before .before .before .args .file .now in
     record {
       reply = sym w;
       house = λ a. record {
         header = numbers e;
         kinds = r .kinds (sym k ∙ a);
-        permits = λ u v. c .permit-masks .ensures u v ∙ r .kinds (sym k ∙ a) u v permitKind (permit-legal (labelsOf f));
+        permits = λ u v. c .permit-masks .ensures u v ∙ r .kinds (sym k ∙ a) u v permitKind (permit-legal (labelsOf (file e)));
       };
     }
 

@@ -27,8 +27,8 @@ legal-said c = c .legal-target .ensures
 fresh : (c : tie.Else1) → not (eqb (given (c .before) .args .mark) 0) ≡ false
 fresh c = ap not (eq-eqb _ 0 (c .if1 .left))
 
-own : (c : tie.Else2) → let a = given (c .before .before) .args in foreign (a .u) (a .x .owner) ≡ false
-own c = sym (foreign-said (c .before .before)) ∙ c .if2 .left
+same-owner : (c : tie.Else2) → let a = given (c .before .before) .args in foreign (a .u) (a .x .owner) ≡ false
+same-owner c = sym (foreign-said (c .before .before)) ∙ c .if2 .left
 
 target : (c : tie.Else3) → let a = given (c .before .before .before) .args in legalTarget (a .h .parties) (a .u) (a .x .target) ≡ true
 target c = sym (legal-said (c .before .before .before)) ∙ not-false (c .before .before .before .legal-target .result) (c .if3 .left)
@@ -54,7 +54,7 @@ returns-2 c = sym (judge-owner _ _ _ _ _ _ (fresh (c .before)) (sym (foreign-sai
 returns-3 : tie.Need-returns-3
 returns-3 c =
     let l = c .before .before .before in
-    sym (judge-target _ _ _ _ _ _ (fresh (c .before .before)) (own (c .before))
+    sym (judge-target _ _ _ _ _ _ (fresh (c .before .before)) (same-owner (c .before))
     (sym (legal-said l) ∙ not-true (l .legal-target .result) (c .if3 .taken)))
 
 legal-kind-requires : tie.Need-legal-kind-requires
@@ -63,7 +63,7 @@ legal-kind-requires c κs = search needs
 returns-4 : tie.Need-returns-4
 returns-4 c =
     let t = c .before .before in
-    sym (judge-kind _ _ _ _ _ _ (fresh (t .before .before)) (own (t .before)) (target t)
+    sym (judge-kind _ _ _ _ _ _ (fresh (t .before .before)) (same-owner (t .before)) (target t)
     (sym (c .before .legal-kind .ensures) ∙ not-true (c .before .legal-kind .result) (c .if4 .taken)))
 
 mul-has : tie.Need-mul-has
@@ -84,14 +84,14 @@ returns-5 : tie.Need-returns-5
 returns-5 c =
     let k = c .before .before .before .before in
     let t = k .before .before in
-    sym (judge-repeat _ _ _ _ _ _ (fresh (t .before .before)) (own (t .before)) (target t) (kind k)
+    sym (judge-repeat _ _ _ _ _ _ (fresh (t .before .before)) (same-owner (t .before)) (target t) (kind k)
     (sym (rw (c .before .before .bit-of .ensures) at (c .before .has .ensures)) ∙ c .if5 .taken))
 
 returns-6 : tie.Need-returns-6
 returns-6 c =
     let k = c .before .before .before .before in
     let t = k .before .before in
-    sym (judge-accepts _ _ _ _ _ _ (fresh (t .before .before)) (own (t .before)) (target t) (kind k)
+    sym (judge-accepts _ _ _ _ _ _ (fresh (t .before .before)) (same-owner (t .before)) (target t) (kind k)
     (sym (rw (c .before .before .bit-of .ensures) at (c .before .has .ensures)) ∙ c .if5 .left))
 
 pub check-record-spec : {M : Type 1} → statement M

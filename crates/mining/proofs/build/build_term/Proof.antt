@@ -1,6 +1,6 @@
 -- The first word stands as a term of its own, and extend_term does the rest.
 use mathlib.Core.Path.{_≡_, refl, sym, ap, _∙_}
-use mathlib.Core.List.{List, [], _∷_}
+use mathlib.Core.List.{List, []}
 use mathlib.Core.Option.{some}
 use Prim.Native.Nat.{ℕ, _+_, _≤_}
 use native.Mathlib.Omega.{arith}
@@ -10,151 +10,132 @@ use lib.ListN.{length}
 use Rattle.rebac.specs.Matter.{Pair, pair}
 use Rattle.rebac.specs.Verdict.{judge}
 use Rattle.rebac.specs.NextWord.{nextWord}
+use Rattle.search.specs.declared.word.Word.{Word}
 use Rattle.search.specs.Word.{symbolsIn}
 use Rattle.search.proofs.SearchLaws.{symbols-length}
-use Rattle.words.proofs.NextLaws.{next-not, next-some}
+use Rattle.words.proofs.NextLaws.{next-not}
 use Rattle.fields.specs.Numbers.{u16Bytes}
 use Rattle.rule_bytes.specs.ListBytes.{encodeTerm}
-use Rattle.fields.specs.Writing.{put}
+use Rattle.fields.specs.promises.Writing.{put}
 use Rattle.fields.proofs.NumberLaws.{u16-size}
 use Rattle.fields.proofs.PutLaws.{put-length, put-over}
-use Rattle.mining.specs.Building.{problemIn, firstBytes, termBytes}
-use Rattle.mining.proofs.FirstLaws.{no-words, first-none, first-full, first-bytes, first-size, first-part, term-least, built-over}
+use Rattle.mining.specs.promises.Building.{problemIn, firstBytes}
+use Rattle.mining.proofs.LackedLaws.{found-some}
+use Rattle.mining.proofs.FirstLaws.{no-words, first-none, first-full, first-bytes, first-size, first-part, outcome-over}
 use Rattle.mining.proofs.build.build_term.Statement.{statement}
 use Rattle.mining.proofs.build.build_term.Tie as tie
 
+-- where a first word was found: the arguments, the pair, the output as it was, and the word
+abbrev given : tie.Else1 → tie.Start
+given c = c .before .before .before .before
+
+abbrev ownPair : tie.Else1 → Pair
+ownPair c = pair (given c .args .first) (given c .args .second)
+
+abbrev old : tie.Else1 → List ℕ
+old c = given c .args .out .now
+
+abbrev word-of : tie.Else1 → Word
+word-of c = c .before .before .first-word .result .word
+
+-- the same place from the count and from the first word written
+abbrev at-count : tie.After-put-u16 → tie.Else1
+at-count c = c .before .before .before
+
+abbrev at-word : tie.After-add-word → tie.Else1
+at-word c = at-count (c .before .before .before .before)
+
+first : (c : tie.Else1) → nextWord (given c .pre .shown .0) (ownPair c) [] ≡ some (symbolsIn (word-of c))
+first c = found-some _ _ (c .before .before .first-word .ensures .1 _ (given c .pre .shown .1)) (not-false _ (c .if1 .left))
+
+-- the bytes of its term, and the room for them
+size : (c : tie.Else1) → length (firstBytes (given c .args .a) (ownPair c)) ≡ 3 + word-of c .len
+size c =
+    let s = c .before .before .first-word .ensures .0 in
+    first-size (given c .pre .shown .1) (ownPair c) (first c)
+    ∙ omega (arith, symbols-length (word-of c) (omega (arith, s .len, s .full)))
+
+room : (c : tie.Else1) → given c .args .at + (3 + word-of c .len) ≤ length (old c)
+room c = omega (arith, size c, first-part (given c .args .a) (ownPair c), given c .pre .room)
+
 first-word-requires : tie.Need-first-word-requires
-first-word-requires c κs = (c .before .pre .0, c .before .pre .1 .0)
+first-word-requires c κs = (c .before .pre .isPair, c .before .pre .shown)
 
 returns : tie.Need-returns
 returns c =
-    let x = c .before .before .before .before in
-    let M = x .pre .1 .0 .0 in
-    let S = x .pre .1 .0 .1 in
-    let p : Pair = pair (x .args .first) (x .args .second) in
-    let r : x .args .at + length (termBytes (x .args .a) p) ≤ length (x .args .out .now) = x .pre .1 .1 in
-    rw (first-none M (x .args .a) S p (next-not _ _ (c .before .before .first-word .ensures .1 M S) (not-true _ (c .if1 .taken)))) refl
-
--- the first word
-first : (c : tie.Else1) → (v : List ℕ) × ((nextWord (c .before .before .before .before .pre .1 .0 .0) (pair (c .before .before .before .before .args .first) (c .before .before .before .before .args .second)) [] ≡ some v) × (symbolsIn (c .before .before .first-word .result .word) ≡ v))
-first c =
-    let x = c .before .before .before .before in
-    next-some _ _ (c .before .before .first-word .ensures .1 (x .pre .1 .0 .0) (x .pre .1 .0 .1)) (not-false _ (c .if1 .left))
+    let S = c .before .before .before .before .pre .shown .1 in
+    rw (first-none S _ (next-not _ _ (c .before .before .first-word .ensures .1 _ S) (not-true _ (c .if1 .taken)))) refl
 
 put-u16-requires : tie.Need-put-u16-requires
-put-u16-requires c κs =
-    let x = c .before .before .before .before .before .before in
-    let M = x .pre .1 .0 .0 in
-    let S = x .pre .1 .0 .1 in
-    let p : Pair = pair (x .args .first) (x .args .second) in
-    let r : x .args .at + length (termBytes (x .args .a) p) ≤ length (x .args .out .now) = x .pre .1 .1 in
-    (omega arith, omega (arith, term-least (x .args .a) p, r))
+put-u16-requires c κs = (omega arith, omega (arith, room (c .before .before)))
 
 -- the count of no word
-count : (c : tie.After-put-u16) → (c .put-u16 .last .0 ≡ put (c .before .before .before .before .before .before .before .args .out .now) (c .before .before .before .before .before .before .before .args .at) (encodeTerm [])) × (length (c .put-u16 .last .0) ≡ length (c .before .before .before .before .before .before .before .args .out .now))
+count : (c : tie.After-put-u16) → let d = at-count c in
+    (c .put-u16 .last .0 ≡ put (old d) (given d .args .at) (encodeTerm [])) × (length (c .put-u16 .last .0) ≡ length (old d))
 count c =
-    let x = c .before .before .before .before .before .before .before in
-    let M = x .pre .1 .0 .0 in
-    let S = x .pre .1 .0 .1 in
-    let p : Pair = pair (x .args .first) (x .args .second) in
-    let r : x .args .at + length (termBytes (x .args .a) p) ≤ length (x .args .out .now) = x .pre .1 .1 in
+    let d = at-count c in
+    let at = given d .args .at in
     let e = c .put-u16 .ensures in
-    (e ∙ ap (put (x .args .out .now) (x .args .at)) no-words, ap length e ∙ put-length (x .args .out .now) (x .args .at) (u16Bytes 0) (omega (arith, u16-size 0, term-least (x .args .a) p, r)))
+    (e ∙ ap (put (old d) at) no-words, ap length e ∙ put-length (old d) at (u16Bytes 0) (omega (arith, u16-size 0, room d)))
 
 add-add-word : tie.Need-add-add-word
-add-add-word c =
-    let x = c .before .before .before .before .before .before .before .before .before .before in
-    let M = x .pre .1 .0 .0 in
-    let S = x .pre .1 .0 .1 in
-    let p : Pair = pair (x .args .first) (x .args .second) in
-    let r : x .args .at + length (termBytes (x .args .a) p) ≤ length (x .args .out .now) = x .pre .1 .1 in
-    omega (arith, term-least (x .args .a) p, r)
+add-add-word c = omega (arith, room (at-count (c .before .before .before)))
 
 add-word-requires : tie.Need-add-word-requires
 add-word-requires c κs =
-    let x = c .before .before .before .before .before .before .before .before .before .before in
-    let M = x .pre .1 .0 .0 in
-    let S = x .pre .1 .0 .1 in
-    let p : Pair = pair (x .args .first) (x .args .second) in
-    let r : x .args .at + length (termBytes (x .args .a) p) ≤ length (x .args .out .now) = x .pre .1 .1 in
-    let v = first (c .before .before .before .before .before .before) in
-    let w = c .before .before .before .before .before .before .before .before .first-word .result .word in
-    let n : length (symbolsIn w) ≡ w .len = symbols-length w (omega (arith, c .before .before .before .before .before .before .before .before .first-word .ensures .0 .len, c .before .before .before .before .before .before .before .before .first-word .ensures .0 .full)) in
-    let z : length (firstBytes (x .args .a) p) ≡ 3 + w .len = first-size M (x .args .a) S p (v .0) (v .1 .0) ∙ omega (arith, ap length (v .1 .1), n) in
-    let l = first-part (x .args .a) p in
-    (c .before .before .before .before .before .before .before .before .first-word .ensures .0 .len, (omega arith, (omega arith, omega (arith, count (c .before .before .before) .1, z, l, r))))
+    let k = c .before .before .before in
+    record {
+      short = at-count k .before .before .first-word .ensures .0 .len;
+      count = omega arith;
+      start = omega arith;
+      room = omega (arith, count k .1, room (at-count k));
+    }
 
 -- the first word as a term
-written : (c : tie.After-add-word) → c .add-word .last .0 ≡ put (c .before .before .before .before .before .before .before .before .before .before .before .args .out .now) (c .before .before .before .before .before .before .before .before .before .before .before .args .at) (firstBytes (c .before .before .before .before .before .before .before .before .before .before .before .args .a) (pair (c .before .before .before .before .before .before .before .before .before .before .before .args .first) (c .before .before .before .before .before .before .before .before .before .before .before .args .second)))
+written : (c : tie.After-add-word) → let d = at-word c in
+    c .add-word .last .0 ≡ put (old d) (given d .args .at) (firstBytes (given d .args .a) (ownPair d))
 written c =
-    let x = c .before .before .before .before .before .before .before .before .before .before .before in
-    let M = x .pre .1 .0 .0 in
-    let S = x .pre .1 .0 .1 in
-    let p : Pair = pair (x .args .first) (x .args .second) in
-    let r : x .args .at + length (termBytes (x .args .a) p) ≤ length (x .args .out .now) = x .pre .1 .1 in
-    let v = first (c .before .before .before .before .before .before .before) in
-    let o = x .args .out .now in
     let k = count (c .before .before .before .before) in
-    c .add-word .ensures o [] refl (omega (arith, ap length no-words, u16-size 0)) (k .0) (sym (k .1))
-    ∙ ap (λ (l : List ℕ). put o (x .args .at) (encodeTerm (l ∷ []))) (v .1 .1)
-    ∙ ap (put o (x .args .at)) (sym (first-bytes M (x .args .a) S p (v .0) (v .1 .0)))
+    let d = at-word c in
+    c .add-word .ensures (old d) [] refl (omega (arith, ap length no-words, u16-size 0)) (k .0) (sym (k .1))
+    ∙ ap (put (old d) (given d .args .at)) (sym (first-bytes (given d .pre .shown .1) (ownPair d) (first d)))
 
 add-extend-term : tie.Need-add-extend-term
-add-extend-term c =
-    let x = c .before .before .before .before .before .before .before .before .before .before .before .before .before .before in
-    let M = x .pre .1 .0 .0 in
-    let S = x .pre .1 .0 .1 in
-    let p : Pair = pair (x .args .first) (x .args .second) in
-    let r : x .args .at + length (termBytes (x .args .a) p) ≤ length (x .args .out .now) = x .pre .1 .1 in
-    let v = first (c .before .before .before .before .before .before .before .before .before .before) in
-    let w = c .before .before .before .before .before .before .before .before .before .before .before .before .first-word .result .word in
-    let n : length (symbolsIn w) ≡ w .len = symbols-length w (omega (arith, c .before .before .before .before .before .before .before .before .before .before .before .before .first-word .ensures .0 .len, c .before .before .before .before .before .before .before .before .before .before .before .before .first-word .ensures .0 .full)) in
-    let z : length (firstBytes (x .args .a) p) ≡ 3 + w .len = first-size M (x .args .a) S p (v .0) (v .1 .0) ∙ omega (arith, ap length (v .1 .1), n) in
-    let l = first-part (x .args .a) p in
-    omega (arith, z, l, r)
+add-extend-term c = omega (arith, room (at-word (c .before .before .before)))
 
 add-extend-term-2 : tie.Need-add-extend-term-2
-add-extend-term-2 c =
-    let x = c .before .before .before .before .before .before .before .before .before .before .before .before .before .before .before in
-    let M = x .pre .1 .0 .0 in
-    let S = x .pre .1 .0 .1 in
-    let p : Pair = pair (x .args .first) (x .args .second) in
-    let r : x .args .at + length (termBytes (x .args .a) p) ≤ length (x .args .out .now) = x .pre .1 .1 in
-    let v = first (c .before .before .before .before .before .before .before .before .before .before .before) in
-    let w = c .before .before .before .before .before .before .before .before .before .before .before .before .before .first-word .result .word in
-    let n : length (symbolsIn w) ≡ w .len = symbols-length w (omega (arith, c .before .before .before .before .before .before .before .before .before .before .before .before .before .first-word .ensures .0 .len, c .before .before .before .before .before .before .before .before .before .before .before .before .before .first-word .ensures .0 .full)) in
-    let z : length (firstBytes (x .args .a) p) ≡ 3 + w .len = first-size M (x .args .a) S p (v .0) (v .1 .0) ∙ omega (arith, ap length (v .1 .1), n) in
-    let l = first-part (x .args .a) p in
-    omega (arith, z, l, r)
+add-extend-term-2 c = omega (arith, room (at-word (c .before .before .before .before)))
 
 extend-term-requires : tie.Need-extend-term-requires
 extend-term-requires c κs =
-    let x = c .before .before .before .before .before .before .before .before .before .before .before .before .before .before .before in
-    let M = x .pre .1 .0 .0 in
-    let S = x .pre .1 .0 .1 in
-    let p : Pair = pair (x .args .first) (x .args .second) in
-    let r : x .args .at + length (termBytes (x .args .a) p) ≤ length (x .args .out .now) = x .pre .1 .1 in
-    let v = first (c .before .before .before .before .before .before .before .before .before .before .before) in
-    let w = c .before .before .before .before .before .before .before .before .before .before .before .before .before .first-word .result .word in
-    let n : length (symbolsIn w) ≡ w .len = symbols-length w (omega (arith, c .before .before .before .before .before .before .before .before .before .before .before .before .before .first-word .ensures .0 .len, c .before .before .before .before .before .before .before .before .before .before .before .before .before .first-word .ensures .0 .full)) in
-    let z : length (firstBytes (x .args .a) p) ≡ 3 + w .len = first-size M (x .args .a) S p (v .0) (v .1 .0) ∙ omega (arith, ap length (v .1 .1), n) in
-    let l = first-part (x .args .a) p in
-    let q = written (c .before .before .before .before) in
-    let o = x .args .out .now in
-    let s : length (c .before .before .before .before .add-word .last .0) ≡ length o = ap length q ∙ put-length o (x .args .at) (firstBytes (x .args .a) p) (omega (arith, l, r)) in
-    (x .pre .0, (x .pre .1 .0, (first-full M (x .args .a) S p (v .0) (v .1 .0), (omega (arith, z), (omega (arith, s, r), rw q (put-over o (x .args .at) (firstBytes (x .args .a) p) (firstBytes (x .args .a) p) (omega (arith, r)) (omega arith)))))))
+    let w = c .before .before .before .before in
+    let d = at-word w in
+    let x = given d in
+    let at = x .args .at in
+    let F = firstBytes (x .args .a) (ownPair d) in
+    let q = written w in
+    let l : at + length F ≤ length (old d) = omega (arith, first-part (x .args .a) (ownPair d), x .pre .room) in
+    let same : length (w .add-word .last .0) ≡ length (old d) = ap length q ∙ put-length (old d) at F l in
+    record {
+      isPair = x .pre .isPair;
+      shown = x .pre .shown;
+      worded = first-full (x .pre .shown .1) (ownPair d) (first d);
+      ends = omega (arith, size d);
+      room = omega (arith, same, x .pre .room);
+      stands = rw q (put-over (old d) at F F (omega (arith, x .pre .room)) (omega arith));
+    }
 
 same-length : tie.Need-same-length
 same-length c = search needs
 
 returns-2 : tie.Need-returns-2
 returns-2 c =
-    let x = c .before .before .before .before .before .before .before .before .before .before .before .before .before .before .before .before .before .before in
-    let M = x .pre .1 .0 .0 in
-    let S = x .pre .1 .0 .1 in
-    let p : Pair = pair (x .args .first) (x .args .second) in
-    let r : x .args .at + length (termBytes (x .args .a) p) ≤ length (x .args .out .now) = x .pre .1 .1 in
-    built-over (x .args .a) p (x .args .at) (x .args .out .now) _ (judge (problemIn (x .args .a)) p) _ (omega (arith, r)) (rw (written (c .before .before .before .before .before .before .before)) at (c .before .before .extend-term .ensures))
+    let w = c .before .before .before .before .before .before .before in
+    let d = at-word w in
+    let x = given d in
+    outcome-over (x .args .a) (ownPair d) (x .args .at) (old d) _ (judge (problemIn (x .args .a)) (ownPair d)) _
+    (omega (arith, x .pre .room))
+    (rw (written w) at (c .before .before .extend-term .ensures))
 
 pub build-term-spec : {M : Type 1} → statement M
 build-term-spec =

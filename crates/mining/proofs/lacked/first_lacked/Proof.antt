@@ -1,13 +1,17 @@
 -- The words passed so far are had by the other pair, so the first lacked one is the first after them.
+-- Invariant: the word in hand is the pair's next after those that the other pair has. Measure: the words from it on.
 use mathlib.Core.Path.{sym, _∙_}
 use borrow.Author.Tests.{not-true, not-false}
-use Rattle.rebac.specs.Matter.{Matter, pair}
+use Rattle.rebac.specs.Matter.{Matter, Pair, pair}
 use Rattle.rebac.specs.NextWord.{nextWord}
-use Rattle.graph.specs.Archive.{Shows}
-use Rattle.search.specs.Word.{symbolsIn, Short}
-use Rattle.words.specs.Next.{NextAs}
+use Rattle.graph.specs.declared.Archive.{Archive}
+use Rattle.graph.specs.promises.Archive.{Shows}
+use Rattle.search.specs.Word.{symbolsIn}
+use Rattle.search.specs.promises.WordValues.{Short}
+use Rattle.words.specs.promises.Next.{NextAs}
 use Rattle.paths.proofs.CallLaws.{query-in, next-shown}
-use Rattle.mining.proofs.LackedLaws.{Passed, leftIn, in-hand, passed-start, passed-end, passed-here, passed-again, left-falls, longest-in, in-hand-short}
+use Rattle.mining.proofs.LackedLaws.{Passed, InHand, leftIn, in-hand, passed-start, passed-end, passed-here, passed-again}
+use Rattle.mining.proofs.LackedLaws.{left-falls, longest-in, in-hand-short}
 use Rattle.mining.proofs.lacked.first_lacked.Statement.{statement}
 use Rattle.mining.proofs.lacked.first_lacked.Tie as tie
 
@@ -17,59 +21,76 @@ Inv-loop a first second u v c₀ c = Short (c .word) × ((M : Matter) → Shows 
 abbrev μ-loop : tie.MeasureT-loop
 μ-loop a first second u v c₀ c = leftIn a (pair first second) c
 
+-- the arguments at a word in hand
+abbrev given : tie.In-loop Inv-loop μ-loop → tie.Start Inv-loop μ-loop
+given c = c .before .before .before
+
+abbrev archive : tie.In-loop Inv-loop μ-loop → Archive
+archive c = given c .args .a
+
+abbrev ownPair : tie.In-loop Inv-loop μ-loop → Pair
+ownPair c = pair (given c .args .first) (given c .args .second)
+
+-- the word in hand is one of the pair's
+held : (c : tie.In-loop Inv-loop μ-loop) {M : Matter} → Shows M (archive c) → InHand M (ownPair c) (c .before .loop .c)
+held c S = in-hand (c .before .loop .inv .1 _ S) (c .loop-test .taken)
+
 first-word-requires : tie.Need-first-word-requires Inv-loop μ-loop
-first-word-requires c κs = (c .pre .0, c .pre .1 .1)
+first-word-requires c κs = (c .pre .isPair, c .pre .shown)
 
 loop-holds : tie.Need-loop-holds Inv-loop μ-loop
 loop-holds c =
     let e = c .first-word .ensures in
-    (e .0, λ M S. passed-start M (c .before .args .a) S _ _ _ (e .1 M S))
+    (e .0, λ M S. passed-start (e .1 M S))
 
 has-word-requires : tie.Need-has-word-requires Inv-loop μ-loop
 has-word-requires c κs =
-    let p = c .before .before .before .before .pre in
-    query-in (p .1 .1 .0) (c .before .before .before .before .args .a) (p .1 .1 .1) _ _ _ (p .1 .0) (c .before .before .loop .inv .0)
+    let p = given (c .before) .pre in
+    query-in (p .shown .0) (archive (c .before)) (p .shown .1) _ _ _ (p .other) (c .before .before .loop .inv .0)
 
 returns : tie.Need-returns Inv-loop μ-loop
 returns c =
-    let x = c .before .before .before .before .before .before .args in
-    let l = c .before .before .before .before .loop in
-    (l .inv .0, λ M S. passed-here M (x .a) S _ _ (l .c) (l .inv .1 M S) (c .before .before .before .loop-test .taken) (sym (c .before .has-word .ensures) ∙ not-true (c .before .has-word .result) (c .if1 .taken)))
+    let i = c .before .before .before in
+    let l = i .before .loop in
+    let no = sym (c .before .has-word .ensures) ∙ not-true (c .before .has-word .result) (c .if1 .taken) in
+    (l .inv .0, λ M S. passed-here (l .inv .1 M S) (i .loop-test .taken) S no)
 
 next-word-requires : tie.Need-next-word-requires Inv-loop μ-loop
 next-word-requires c κs =
-    let x = c .before .before .before .before .before .before in
-    let M = x .pre .1 .1 .0 in
-    let S = x .pre .1 .1 .1 in
-    let l = c .before .before .before .before .loop in
-    let h = in-hand M (x .args .a) S _ _ (l .c) (l .inv .1 M S) (c .before .before .before .loop-test .taken) in
-    (query-in M (x .args .a) S _ _ _ (x .pre .0) (l .inv .0), (in-hand-short M (x .args .a) S _ (l .c) (l .inv .0) h, longest-in M (x .args .a) S))
+    let i = c .before .before .before in
+    let S = given i .pre .shown .1 in
+    let s = i .before .loop .inv .0 in
+    record {
+      query = query-in _ (archive i) S _ _ _ (given i .pre .isPair) s;
+      within = in-hand-short S s (held i S);
+      longest = longest-in S;
+    }
 
 -- the next word after the word in hand
-next-after : (c : tie.After-next-word Inv-loop μ-loop) (M : Matter) → Shows M (c .before .before .before .before .before .before .before .args .a)
-    → NextAs (nextWord M (pair (c .before .before .before .before .before .before .before .args .first) (c .before .before .before .before .before .before .before .args .second)) (symbolsIn (c .before .before .before .before .before .loop .c .word))) (c .next-word .result)
+next-after : (c : tie.After-next-word Inv-loop μ-loop) (M : Matter) → let i = c .before .before .before .before in
+    Shows M (archive i) → NextAs (nextWord M (ownPair i) (symbolsIn (i .before .loop .c .word))) (c .next-word .result)
 next-after c M S =
-    let x = c .before .before .before .before .before .before .before in
-    let l = c .before .before .before .before .before .loop in
-    let h = in-hand M (x .args .a) S _ _ (l .c) (l .inv .1 M S) (c .before .before .before .before .loop-test .taken) in
-    next-shown M (x .args .a) S _ (l .c .word) (l .inv .0) (in-hand-short M (x .args .a) S _ (l .c) (l .inv .0) h) _ (c .next-word .ensures .1)
+    let i = c .before .before .before .before in
+    let l = i .before .loop in
+    next-shown M (archive i) S _ (l .c .word) (l .inv .0) (in-hand-short S (l .inv .0) (held i S)) _ (c .next-word .ensures .1)
 
 loop-less : tie.Need-loop-less Inv-loop μ-loop
 loop-less c =
-    let x = c .before .before .before .before .before .before .before in
-    let l = c .before .before .before .before .before .loop in
-    left-falls (x .pre .1 .1 .0) (x .args .a) (x .pre .1 .1 .1) _ (pair (x .args .u) (x .args .v)) (l .c) (c .next-word .result) (c .before .before .before .before .loop-test .taken) (next-after c (x .pre .1 .1 .0) (x .pre .1 .1 .1))
+    let i = c .before .before .before .before in
+    let S = given i .pre .shown .1 in
+    left-falls S (ownPair i) (i .before .loop .c) (c .next-word .result) (i .loop-test .taken) (next-after c _ S)
 
 loop-again : tie.Need-loop-again Inv-loop μ-loop
 loop-again c =
-    let x = c .before .before .before .before .before .before .before in
-    let l = c .before .before .before .before .before .loop in
-    (c .next-word .ensures .0, λ M S. passed-again M (x .args .a) S _ _ (l .c) _ (l .inv .1 M S) (c .before .before .before .before .loop-test .taken) (sym (c .before .before .has-word .ensures) ∙ not-false (c .before .before .has-word .result) (c .before .if1 .left)) (next-after c M S))
+    let i = c .before .before .before .before in
+    let l = i .before .loop in
+    let had = sym (c .before .before .has-word .ensures) ∙ not-false (c .before .before .has-word .result) (c .before .if1 .left) in
+    (c .next-word .ensures .0, λ M S. passed-again (l .inv .1 M S) (i .loop-test .taken) S had (next-after c M S))
 
 returns-2 : tie.Need-returns-2 Inv-loop μ-loop
 returns-2 c =
     let l = c .before .loop in
-    (l .inv .0, λ M S. rw (passed-end M (c .before .before .before .args .a) S _ _ (l .c) (l .inv .1 M S) (c .loop-test .left)) (c .loop-test .left))
+    (l .inv .0, λ M S. rw (passed-end (l .inv .1 M S) (c .loop-test .left)) (c .loop-test .left))
 
 pub first-lacked-spec : {M : Type 1} → statement M
 first-lacked-spec =

@@ -2,7 +2,7 @@
 use mathlib.Core.Path.{refl}
 use native.Mathlib.Omega.{arith}
 use lib.ListN.{replicate}
-use Rattle.search.specs.Word.{Short}
+use Rattle.search.specs.promises.WordValues.{Short}
 use Rattle.paths.proofs.CallLaws.{query-in, next-shown}
 use Rattle.mining.proofs.LackedLaws.{longest-in}
 use Rattle.mining.proofs.lacked.first_word.Statement.{statement}
@@ -13,8 +13,8 @@ empty-short = record { len = omega arith; full = refl; symbols = λ i h. absurd 
 
 next-word-requires : tie.Need-next-word-requires
 next-word-requires c κs =
-    let p = c .pre in
-    (query-in (p .1 .0) (c .args .a) (p .1 .1) _ _ _ (p .0) empty-short, (omega arith, longest-in (p .1 .0) (c .args .a) (p .1 .1)))
+    let S = c .pre .1 .1 in
+    record { query = query-in _ (c .args .a) S _ _ _ (c .pre .0) empty-short; within = omega arith; longest = longest-in S }
 
 returns : tie.Need-returns
 returns c =

@@ -9,7 +9,7 @@ use lib.Seq.{length-take-le}
 use Rattle.search.specs.Word.{symbolsIn}
 use Rattle.fields.specs.Numbers.{u16Bytes}
 use Rattle.rule_bytes.specs.ListBytes.{encodeWord, encodeTerm}
-use Rattle.fields.specs.Writing.{put}
+use Rattle.fields.specs.promises.Writing.{put}
 use Rattle.rule_bytes.proofs.RoundTrip.{word-size}
 use Rattle.mining.proofs.TermLaws.{term-more}
 use Rattle.mining.proofs.term.add_word.Statement.{statement}
@@ -35,9 +35,11 @@ returns c =
     let m : length (symbolsIn (a .w)) ≡ a .w .len = length-take-le (a .w .len) (a .w .symbols) (omega arith) in
     let W = encodeWord (symbolsIn (a .w)) in
     let T = put b (a .at) (encodeTerm t) in
+    let N = u16Bytes (a .number + 1) in
+    let p = c .before .before .before .before .before .before .put-word .ensures in
     c .before .before .put-u16 .ensures
-    ∙ ap (λ (s : List ℕ). put s (a .at) (u16Bytes (a .number + 1))) (c .before .before .before .before .before .before .put-word .ensures ∙ ap (λ (s : List ℕ). put s (a .end) W) o)
-    ∙ ap (λ (k : ℕ). put (put T k W) (a .at) (u16Bytes (a .number + 1))) e
+    ∙ ap (λ (s : List ℕ). put s (a .at) N) (p ∙ ap (λ (s : List ℕ). put s (a .end) W) o)
+    ∙ ap (λ (k : ℕ). put (put T k W) (a .at) N) e
     ∙ ap (λ (k : ℕ). put (put T (a .at + length (encodeTerm t)) W) (a .at) (u16Bytes (k + 1))) (sym n)
     ∙ term-more b (a .at) t (symbolsIn (a .w)) (omega (arith, word-size (symbolsIn (a .w)), m, e, l))
 

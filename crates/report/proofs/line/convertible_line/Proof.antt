@@ -1,6 +1,5 @@
 -- The word, the length's digits, the line's end.
 use native.Mathlib.Omega.{arith}
-use lib.ListN.{length}
 use Rattle.report.specs.Report.{verdictLine}
 use Rattle.fields.proofs.WroteLaws.{wrote-length, wrote-three}
 use Rattle.report.proofs.LineLaws.{convertible-length}
@@ -38,7 +37,11 @@ same-length c = search needs
 
 returns : tie.Need-returns
 unfolding verdictLine
-returns c = wrote-three (c .before .before .before .before .before .before .before .before .before .before .before .put-bytes .ensures) (c .before .before .before .before .before .before .before .put-decimal .ensures) (c .before .before .put-bytes2 .ensures) (omega (arith, c .before .before .before .before .before .before .before .before .before .before .before .before .before .before .before .pre))
+returns c =
+    let second = c .before .before .before .before .before .before .before in
+    let first = second .before .before .before .before in
+    wrote-three (first .put-bytes .ensures) (second .put-decimal .ensures) (c .before .before .put-bytes2 .ensures)
+    (omega (arith, first .before .before .before .before .pre))
 
 pub convertible-line-spec : {M : Type 1} → statement M
 convertible-line-spec =

@@ -10,25 +10,33 @@ enum-known-v c = search needs
 
 refused-line-requires : tie.Need-refused-line-requires
 unfolding verdictLine
-refused-line-requires c κs = let h = rw (c .before .before .v .given .1) at (c .before .before .before .before .before .pre) in omega arith
+refused-line-requires c κs =
+    let h = rw (c .before .before .v .given .1) at (c .before .before .before .before .before .pre) in
+    omega arith
 
 enum-known-v-2 : tie.Need-enum-known-v-2
 enum-known-v-2 c = search needs
 
 convertible-line-requires : tie.Need-convertible-line-requires
-convertible-line-requires c κs = let h = rw (c .before .before .v2 .given .1) at (c .before .before .before .before .before .pre) in omega arith
+convertible-line-requires c κs =
+    let h = rw (c .before .before .v2 .given .1) at (c .before .before .before .before .before .pre) in
+    omega arith
 
 enum-known-v-3 : tie.Need-enum-known-v-3
 enum-known-v-3 c = search needs
 
 no-word-line-requires : tie.Need-no-word-line-requires
-no-word-line-requires c κs = let h = rw (c .before .before .v3 .given .1) at (c .before .before .before .before .before .pre) in omega arith
+no-word-line-requires c κs =
+    let h = rw (c .before .before .v3 .given .1) at (c .before .before .before .before .before .pre) in
+    omega arith
 
 enum-known-v-4 : tie.Need-enum-known-v-4
 enum-known-v-4 c = search needs
 
 rival-line-requires : tie.Need-rival-line-requires
-rival-line-requires c κs = let h = rw (c .before .before .v4 .given .1) at (c .before .before .before .before .before .pre) in omega arith
+rival-line-requires c κs =
+    let h = rw (c .before .before .v4 .given .1) at (c .before .before .before .before .before .pre) in
+    omega arith
 
 same-length : tie.Need-same-length
 same-length c = search needs

@@ -37,7 +37,11 @@ same-length c = search needs
 
 returns : tie.Need-returns
 unfolding verdictLine
-returns c = wrote-three (c .before .before .before .before .before .before .before .before .before .before .before .put-bytes .ensures) (c .before .before .before .before .before .before .before .put-pair .ensures) (c .before .before .put-bytes2 .ensures) (omega (arith, c .before .before .before .before .before .before .before .before .before .before .before .before .before .before .before .pre))
+returns c =
+    let second = c .before .before .before .before .before .before .before in
+    let first = second .before .before .before .before in
+    wrote-three (first .put-bytes .ensures) (second .put-pair .ensures) (c .before .before .put-bytes2 .ensures)
+    (omega (arith, first .before .before .before .before .pre))
 
 pub no-word-line-spec : {M : Type 1} → statement M
 no-word-line-spec =

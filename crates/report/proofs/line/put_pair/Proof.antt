@@ -34,7 +34,11 @@ same-length c = search needs
 
 returns : tie.Need-returns
 unfolding pairText
-returns c = wrote-three (c .before .before .before .before .before .before .before .before .before .before .before .put-decimal .ensures) (c .before .before .before .before .before .before .put-bytes .ensures) (c .before .before .put-decimal2 .ensures) (c .before .before .before .before .before .before .before .before .before .before .before .before .before .before .pre)
+returns c =
+    let second = c .before .before .before .before .before .before in
+    let first = second .before .before .before .before .before in
+    wrote-three (first .put-decimal .ensures) (second .put-bytes .ensures) (c .before .before .put-decimal2 .ensures)
+    (first .before .before .before .pre)
 
 pub put-pair-spec : {M : Type 1} → statement M
 put-pair-spec =

@@ -50,8 +50,11 @@ same-length c = search needs
 returns : tie.Need-returns
 unfolding refusedLine
 returns c =
-    let d = rw (c .before .before .before .before .before .before .before .before .number .ensures) at (c .before .before .before .before .before .before .before .put-decimal .ensures) in
-    wrote-three (c .before .before .before .before .before .before .before .before .before .before .before .before .put-bytes .ensures) d (c .before .before .put-bytes2 .ensures) (omega (arith, c .before .before .before .before .before .before .before .before .before .before .before .before .before .before .before .before .pre))
+    let second = c .before .before .before .before .before .before .before in
+    let first = second .before .before .before .before .before in
+    let digits = rw (second .before .number .ensures) at (second .put-decimal .ensures) in
+    wrote-three (first .put-bytes .ensures) digits (c .before .before .put-bytes2 .ensures)
+    (omega (arith, first .before .before .before .before .pre))
 
 pub refused-line-spec : {M : Type 1} → statement M
 refused-line-spec =

@@ -1,14 +1,15 @@
--- The verdict's line, then nothing, or the list's part in the tail lent from the line's end on; the tail is as long as list_part asks.
+-- The verdict's line, then nothing, or the list's part in the tail lent from the line's end on; the tail is as long as it needs.
 use mathlib.Core.Path.{_≡_, sym, ap, _∙_}
-use mathlib.Core.List.{[]}
-use Prim.Native.Nat.{_+_, _-_, _≤_}
+use mathlib.Core.List.{List, []}
+use Prim.Native.Nat.{ℕ, _+_, _-_, _≤_}
 use native.Mathlib.Omega.{arith}
 use lib.ListN.{length}
 use borrow.Rule.Slice.PartMut.{putMid, mid-len}
-use Rattle.graph.specs.Archive.{matterOf}
+use Rattle.graph.specs.FileMatter.{matterOf}
 use Rattle.conversion.specs.declared.verdict.VerdictReply.{VerdictReply}
-use Rattle.fields.specs.Writing.{Wrote}
-use Rattle.report.specs.Report.{Inside, verdictLine, listPart, fileText}
+use Rattle.fields.specs.promises.Writing.{Wrote}
+use Rattle.report.specs.promises.Prefix.{PrefixLength}
+use Rattle.report.specs.Report.{verdictLine, listPart, fileText}
 use Rattle.fields.proofs.WroteLaws.{wrote-length}
 use Rattle.report.proofs.ReportLaws.{line-fits, wrote-tail, line-alone, line-then-list}
 use borrow.Author.Needs.{needs}
@@ -21,12 +22,20 @@ verdict-call-requires c κs = search needs
 first-line-requires : tie.Need-first-line-requires
 first-line-requires c κs =
     let s = c .before .before .before .before in
-    omega (arith, s .pre, line-fits (s .args .file .now), ap (λ (v : VerdictReply). length (verdictLine v)) (c .before .verdict-call .ensures))
+    let e = ap (λ (v : VerdictReply). length (verdictLine v)) (c .before .verdict-call .ensures) in
+    omega (arith, s .pre, line-fits (s .args .file .now), e)
+
+-- the function's start, and the text as the line left it
+abbrev start : tie.After-first-line → tie.Start
+start c = c .before .before .before .before .before
+
+abbrev lined : tie.After-first-line → List ℕ
+lined c = c .first-line .last .1 .0
 
 -- the line has at most 64 bytes, and the text's length is kept
-room : (c : tie.After-first-line) → (c .first-line .result ≤ 64) × (length (c .first-line .last .1 .0) ≡ length (c .before .before .before .before .before .args .text .now))
+room : (c : tie.After-first-line) → (c .first-line .result ≤ 64) × (length (lined c) ≡ length (start c .args .text .now))
 room c =
-    let s = c .before .before .before .before .before in
+    let s = start c in
     let l = line-fits (s .args .file .now) in
     let e = ap (λ (v : VerdictReply). length (verdictLine v)) (c .before .before .verdict-call .ensures) in
     (omega (arith, l, e, c .first-line .ensures .place), wrote-length (c .first-line .ensures) (omega (arith, s .pre, l, e)))
@@ -38,10 +47,14 @@ enum-known-v-2 : tie.Need-enum-known-v-2
 enum-known-v-2 c = search needs
 
 sub-list-part : tie.Need-sub-list-part
-sub-list-part c = let b = c .before .before .before .before .before in let r = room b in omega (arith, r .0, r .1, b .before .before .before .before .before .pre)
+sub-list-part c =
+    let b = c .before .before .before .before .before in
+    omega (arith, room b .0, room b .1, start b .pre)
 
 part-list-part-start : tie.Need-part-list-part-start
-part-list-part-start c = let b = c .before .before .before .before .before in let r = room b in omega (arith, r .0, r .1, b .before .before .before .before .before .pre)
+part-list-part-start c =
+    let b = c .before .before .before .before .before in
+    omega (arith, room b .0, room b .1, start b .pre)
 
 part-list-part-end : tie.Need-part-list-part-end
 part-list-part-end c = search needs
@@ -50,10 +63,10 @@ list-part-requires : tie.Need-list-part-requires
 list-part-requires c κs =
     let b = c .before .before .before .before .before .before in
     let r = room b in
-    let out = b .first-line .last .1 .0 in
-    let convertible = c .before .before .v2 .given in (
+    let convertible = c .before .before .v2 .given in
+    let tail = mid-len (b .first-line .result) (length (lined b)) (lined b) (omega arith) in (
       (convertible .0 .0, sym (b .before .before .verdict-call .ensures) ∙ convertible .1),
-      omega (arith, r .0, r .1, b .before .before .before .before .before .pre, mid-len (b .first-line .result) (length out) out (omega arith)),
+      omega (arith, r .0, r .1, start b .pre, tail),
     )
 
 -- the line and the list's part behind it
@@ -64,13 +77,14 @@ whole : (c : tie.After-slice-known3) → (
     let end = b .first-line .result in
     let part = c .before .before .list-part in
     let new = putMid end (length out - end) out (part .last .1 .0) in
-    Wrote (args .text .now) 0 (fileText (args .file .now)) new (end + part .result) × Inside (end + part .result) new)
+    Wrote (args .text .now) 0 (fileText (args .file .now)) new (end + part .result) × PrefixLength (end + part .result) new)
 whole c =
     let b = c .before .before .before .before .before .before .before .before .before in
     let s = b .before .before .before .before .before in
     let e = b .before .before .verdict-call .ensures in
-    let r = room b in
-    let p = wrote-tail (b .first-line .last .1 .0) (b .first-line .result) (omega (arith, r .0, r .1, s .pre)) (c .before .before .list-part .ensures) in
+    let p =
+    wrote-tail (b .first-line .last .1 .0) (b .first-line .result) (omega (arith, room b .0, room b .1, s .pre))
+    (c .before .before .list-part .ensures) in
     line-then-list (s .args .file .now) (sym e) (b .first-line .ensures) (rw e p)
 
 add-result : tie.Need-add-result
@@ -84,11 +98,11 @@ enum-known-v-4 c = search needs
 
 -- the line where there is no list
 alone : (c : tie.After-first-line) → (
-    let args = c .before .before .before .before .before .args in
-    let new = c .first-line .last .1 .0 in
+    let args = start c .args in
     let end = c .first-line .result in
-    listPart (matterOf (args .file .now)) (c .before .before .verdict-call .result) ≡ [] → Wrote (args .text .now) 0 (fileText (args .file .now)) new end × Inside end new)
-alone c n = line-alone (c .before .before .before .before .before .args .file .now) (sym (c .before .before .verdict-call .ensures)) n (c .first-line .ensures)
+    listPart (matterOf (args .file .now)) (c .before .before .verdict-call .result) ≡ []
+    → Wrote (args .text .now) 0 (fileText (args .file .now)) (lined c) end × PrefixLength end (lined c))
+alone c n = line-alone (start c .args .file .now) (sym (c .before .before .verdict-call .ensures)) n (c .first-line .ensures)
 
 same-length : tie.Need-same-length
 same-length c = search needs

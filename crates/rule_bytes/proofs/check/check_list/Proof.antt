@@ -22,12 +22,16 @@ enum-known-r : tie.Need-enum-known-r
 enum-known-r c = search needs
 
 returns-2 : tie.Need-returns-2
-returns-2 c = sym (list-broken _ _ _ _ _ (omega (arith, c .before .before .before .before .if1 .left)) (c .before .before .before .u16-at .ensures .0) (rw (c .enum-told .given .1) at (c .before .before .check-terms .ensures)))
+returns-2 c =
+    let t = c .before .before .before in
+    let broken = rw (c .enum-told .given .1) at (c .before .before .check-terms .ensures) in
+    sym (list-broken _ _ _ _ _ (omega (arith, t .before .if1 .left)) (t .u16-at .ensures .0) broken)
 
 returns-3 : tie.Need-returns-3
 returns-3 c =
+    let t = c .before .before .before .before in
     let e = rw (c .before .r .given .1) at (c .before .before .before .check-terms .ensures) in
-    sym (list-read _ _ _ _ _ (omega (arith, c .before .before .before .before .before .if1 .left)) (c .before .before .before .before .u16-at .ensures .0) (e .1 .0) _ (e .0) (e .1 .1))
+    sym (list-read _ _ _ _ _ (omega (arith, t .before .if1 .left)) (t .u16-at .ensures .0) (e .1 .0) _ (e .0) (e .1 .1))
 
 pub check-list-spec : {M : Type 1} → statement M
 check-list-spec =

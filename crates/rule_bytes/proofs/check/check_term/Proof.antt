@@ -30,7 +30,9 @@ check-words-requires : tie.Need-check-words-requires
 check-words-requires c κs = search needs
 
 returns-3 : tie.Need-returns-3
-returns-3 c = passes-same _ _ _ _ _ (c .check-words .result) (term-here _ _ _ _ _ _ (inside (c .before .before .before)) (c .before .before .u16-at .ensures .0) (c .before .if2 .left)) (c .check-words .ensures)
+returns-3 c =
+    let same = term-here _ _ _ _ _ _ (inside (c .before .before .before)) (c .before .before .u16-at .ensures .0) (c .before .if2 .left) in
+    passes-same _ _ _ _ _ (c .check-words .result) same (c .check-words .ensures)
 
 pub check-term-spec : {M : Type 1} → statement M
 check-term-spec =

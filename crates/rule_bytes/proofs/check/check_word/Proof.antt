@@ -34,7 +34,9 @@ sub-if4 : tie.Need-sub-if4
 sub-if4 c = search needs
 
 returns-4 : tie.Need-returns-4
-returns-4 c = word-cut _ _ _ _ _ _ (inside (c .before .before .before .before .before)) (c .before .before .before .wide .ensures .0) (c .if4 .taken)
+returns-4 c =
+    let t = c .before .before .before in
+    word-cut _ _ _ _ _ _ (inside (t .before .before)) (t .wide .ensures .0) (c .if4 .taken)
 
 add-end : tie.Need-add-end
 add-end c = search needs
@@ -43,10 +45,21 @@ legal-symbols-requires : tie.Need-legal-symbols-requires
 legal-symbols-requires c κs = search needs
 
 returns-5 : tie.Need-returns-5
-returns-5 c = (omega (arith, inside (c .before .before .before .before .before .before .before), c .before .before .if4 .left), (_, word-good _ _ _ _ _ _ (inside (c .before .before .before .before .before .before .before)) (c .before .before .before .before .before .wide .ensures .0) (c .before .before .if4 .left) (omega (arith, c .before .before .before .before .if2 .left)) (c .before .before .before .if3 .left) (sym (c .before .legal-symbols .ensures) ∙ c .if5 .taken)))
+returns-5 c =
+    let t = c .before .before .before .before .before in
+    let here = inside (t .before .before) in
+    let room = c .before .before .if4 .left in
+    let full = c .before .before .before .before .if2 .left in
+    let good = sym (c .before .legal-symbols .ensures) ∙ c .if5 .taken in (
+      omega (arith, here, room),
+      (_, word-good _ _ _ _ _ _ here (t .wide .ensures .0) room (omega (arith, full)) (c .before .before .before .if3 .left) good),
+    )
 
 returns-6 : tie.Need-returns-6
-returns-6 c = word-wrong _ _ _ _ _ _ (inside (c .before .before .before .before .before .before .before)) (c .before .before .before .before .before .wide .ensures .0) (sym (c .before .legal-symbols .ensures) ∙ c .if5 .left)
+returns-6 c =
+    let t = c .before .before .before .before .before in
+    let bad = sym (c .before .legal-symbols .ensures) ∙ c .if5 .left in
+    word-wrong _ _ _ _ _ _ (inside (t .before .before)) (t .wide .ensures .0) bad
 
 pub check-word-spec : {M : Type 1} → statement M
 check-word-spec =

@@ -1,8 +1,10 @@
--- What was passed is legal, so what is left decides.
+-- Invariant: the range is legal exactly where what is left of it, from place i on, is. Measure: the symbols left.
 use borrow.Author.Tests.{not-true, not-false}
 use Rattle.rule_bytes.proofs.ReadingLaws.{symbol-no, symbol-yes, symbols-end}
 use mathlib.Core.Path.{_≡_, sym, _∙_}
-use Prim.Native.Nat.{_-_, _≤_}
+use mathlib.Core.Bool.{Bool}
+use mathlib.Core.List.{List}
+use Prim.Native.Nat.{ℕ, _-_, _≤_}
 use native.Mathlib.Omega.{arith}
 use lib.Seq.{slice}
 use Rattle.lists.specs.Lists.{allOf}
@@ -11,8 +13,18 @@ use borrow.Author.Needs.{needs}
 use Rattle.rule_bytes.proofs.check.legal_symbols.Statement.{statement}
 use Rattle.rule_bytes.proofs.check.legal_symbols.Tie as tie
 
+-- whether the symbols from one place to another are legal
+abbrev legalFrom : ℕ → ℕ → List ℕ → ℕ → ℕ → Bool
+legalFrom labels language b i end = allOf (legalSymbol labels language) (slice i end b)
+
+-- the range from one place to another, looked at up to place i
+record LegalLeft (labels language : ℕ) (b : List ℕ) (from end i : ℕ) : Type 0 where
+  begun : from ≤ i
+  inside : i ≤ end
+  same : legalFrom labels language b from end ≡ legalFrom labels language b i end
+
 abbrev Inv-loop : tie.InvT-loop
-Inv-loop list from end labels language i₀ i = (from ≤ i) × ((i ≤ end) × (allOf (legalSymbol labels language) (slice from end list) ≡ allOf (legalSymbol labels language) (slice i end list)))
+Inv-loop list from end labels language i₀ i = LegalLeft labels language list from end i
 
 abbrev μ-loop : tie.MeasureT-loop
 μ-loop list from end labels language i₀ i = end - i
@@ -28,8 +40,10 @@ legal-symbol-requires c κs = search needs
 
 returns : tie.Need-returns Inv-loop μ-loop
 returns c =
-    let l = c .before .before .before .before .loop in
-    sym (l .inv .1 .1 ∙ symbol-no _ _ (l .i) _ (c .before .before .before .loop-test .taken) (c .before .before .before .before .before .before .pre .1 .1) (sym (c .before .legal-symbol .ensures) ∙ not-true _ (c .if1 .taken)))
+    let t = c .before .before .before in
+    let l = t .before .loop in
+    let no = sym (c .before .legal-symbol .ensures) ∙ not-true _ (c .if1 .taken) in
+    sym (l .inv .same ∙ symbol-no _ _ (l .i) _ (t .loop-test .taken) (t .before .before .before .pre .inside) no)
 
 add-i : tie.Need-add-i Inv-loop μ-loop
 add-i c = search needs
@@ -39,14 +53,18 @@ loop-less c = search needs
 
 loop-again : tie.Need-loop-again Inv-loop μ-loop
 loop-again c =
-    let l = c .before .before .before .before .loop in
-    (omega arith, (omega arith, l .inv .1 .1 ∙ symbol-yes _ _ (l .i) _ (c .before .before .before .loop-test .taken) (c .before .before .before .before .before .before .pre .1 .1) (sym (c .before .legal-symbol .ensures) ∙ not-false _ (c .if1 .left))))
+    let t = c .before .before .before in
+    let l = t .before .loop in
+    let yes = sym (c .before .legal-symbol .ensures) ∙ not-false _ (c .if1 .left) in
+    let next = symbol-yes _ _ (l .i) _ (t .loop-test .taken) (t .before .before .before .pre .inside) yes in
+    record { begun = omega arith; inside = omega arith; same = l .inv .same ∙ next }
 
 returns-2 : tie.Need-returns-2 Inv-loop μ-loop
 returns-2 c =
     let l = c .before .loop in
-    let e : l .i ≡ c .before .before .before .args .end = omega (arith, c .loop-test .left) in
-    sym (l .inv .1 .1 ∙ rw e (symbols-end _ (c .before .before .before .args .list .now) (c .before .before .before .args .end)))
+    let a = c .before .before .before .args in
+    let e : l .i ≡ a .end = omega (arith, c .loop-test .left) in
+    sym (l .inv .same ∙ rw e (symbols-end _ (a .list .now) (a .end)))
 
 pub legal-symbols-spec : {M : Type 1} → statement M
 legal-symbols-spec =

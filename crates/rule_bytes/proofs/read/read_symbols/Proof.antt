@@ -1,6 +1,7 @@
--- The symbols read so far, over zeros.
+-- Invariant: the first i symbols were read, over zeros. Measure: the symbols left.
 use mathlib.Core.Path.{_≡_, ap, _∙_}
-use Prim.Native.Nat.{_+_, _-_, _≤_}
+use mathlib.Core.List.{List}
+use Prim.Native.Nat.{ℕ, _+_, _-_, _≤_}
 use native.Mathlib.Omega.{arith}
 use lib.ListN.{length, getD, drop, replicate, length-set, length-drop}
 use lib.Seq.{getD-drop}
@@ -9,8 +10,14 @@ use Rattle.rule_bytes.proofs.CopyLaws.{front, front-more, read-eq}
 use Rattle.rule_bytes.proofs.read.read_symbols.Statement.{statement}
 use Rattle.rule_bytes.proofs.read.read_symbols.Tie as tie
 
+-- the array after i symbols
+record ReadTo (list : List ℕ) (from len : ℕ) (symbols : List ℕ) (i : ℕ) : Type 0 where
+  inside : i ≤ len
+  full : length symbols ≡ 31
+  read : symbols ≡ front (replicate 31 0) (drop from list) i
+
 abbrev Inv-loop : tie.InvT-loop
-Inv-loop list from len symbols₀ i₀ symbols i = (i ≤ len) × ((length symbols ≡ 31) × (symbols ≡ front (replicate 31 0) (drop from list) i))
+Inv-loop list from len symbols₀ i₀ symbols i = ReadTo list from len symbols i
 
 abbrev μ-loop : tie.MeasureT-loop
 μ-loop list from len symbols₀ i₀ symbols i = len - i
@@ -38,20 +45,17 @@ loop-again c =
     let l = c .before .before .loop in
     let a = c .before .before .before .args in
     let s = drop (a .from) (a .list .now) in
-    let g : getD s (l .i) 0 ≡ getD (a .list .now) (a .from + l .i) 0 = getD-drop (a .from) (a .list .now) (l .i) 0 in (
-      omega arith,
-      (
-        length-set (l .symbols) _ _ ∙ l .inv .1 .0,
-        rw (← g, l .inv .1 .1) (front-more (replicate 31 0) s (l .i) (omega arith) (omega (arith, length-drop (a .from) (a .list .now)))),
-      ),
-    )
+    let g : getD s (l .i) 0 ≡ getD (a .list .now) (a .from + l .i) 0 = getD-drop (a .from) (a .list .now) (l .i) 0 in
+    let more = front-more (replicate 31 0) s (l .i) (omega arith) (omega (arith, length-drop (a .from) (a .list .now))) in
+    record { inside = omega arith; full = length-set (l .symbols) _ _ ∙ l .inv .full; read = rw (← g, l .inv .read) more }
 
 returns : tie.Need-returns Inv-loop μ-loop
 returns c =
     let l = c .before .loop in
     let a = c .before .before .args in
+    let s = drop (a .from) (a .list .now) in
     let e : l .i ≡ a .len = omega arith in
-    read-eq (drop (a .from) (a .list .now)) (l .symbols) (a .len) (omega (arith, length-drop (a .from) (a .list .now))) (l .inv .1 .1 ∙ ap (front _ (drop (a .from) (a .list .now))) e)
+    read-eq s (l .symbols) (a .len) (omega (arith, length-drop (a .from) (a .list .now))) (l .inv .read ∙ ap (front _ s) e)
 
 pub read-symbols-spec : {M : Type 1} → statement M
 read-symbols-spec =

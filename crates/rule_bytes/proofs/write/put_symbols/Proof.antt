@@ -1,22 +1,30 @@
--- The symbols written so far.
+-- Invariant: the first i symbols stand at the place, every other byte is kept. Measure: the symbols left.
 use mathlib.Core.Path.{_≡_, refl, sym, ap, _∙_}
+use mathlib.Core.List.{List}
 use Prim.Native.Nat.{ℕ, _-_, _≤_}
 use native.Mathlib.Omega.{arith}
 use lib.ListN.{length, take, length-set}
-use Rattle.fields.specs.Writing.{put}
+use Rattle.fields.specs.promises.Writing.{put}
+use Rattle.search.specs.declared.word.Word.{Word}
 use Rattle.fields.proofs.PutLaws.{put-nil, put-take}
 use borrow.Author.Needs.{needs}
 use Rattle.rule_bytes.proofs.write.put_symbols.Statement.{statement}
 use Rattle.rule_bytes.proofs.write.put_symbols.Tie as tie
 
+-- the slice after i symbols
+record WrittenTo (out₀ : List ℕ) (at : ℕ) (w : Word) (len : ℕ) (out : List ℕ) (i : ℕ) : Type 0 where
+  inside : i ≤ len
+  kept : length out ≡ length out₀
+  written : out ≡ put out₀ at (take i (w .symbols))
+
 abbrev Inv-loop : tie.InvT-loop
-Inv-loop out₀ at w len i₀ out i = (i ≤ len) × ((length out ≡ length out₀) × (out ≡ put out₀ at (take i (w .symbols))))
+Inv-loop out₀ at w len i₀ out i = WrittenTo out₀ at w len out i
 
 abbrev μ-loop : tie.MeasureT-loop
 μ-loop out₀ at w len i₀ out i = len - i
 
 loop-holds : tie.Need-loop-holds Inv-loop μ-loop
-loop-holds c = (omega arith, (refl, sym (put-nil _ _)))
+loop-holds c = record { inside = omega arith; kept = refl; written = sym (put-nil _ _) }
 
 element-copy-out-out : tie.Need-element-copy-out-out Inv-loop μ-loop
 element-copy-out-out c = search needs
@@ -36,9 +44,11 @@ loop-less c = search needs
 loop-again : tie.Need-loop-again Inv-loop μ-loop
 loop-again c =
     let l = c .before .before .loop in
-    let w = c .before .before .before .args .t3 in
+    let a = c .before .before .before .args in
+    let w = a .t3 in
     let hs : length (w .symbols) ≡ 31 = search needs in
-    (omega arith, (length-set (l .out) _ _ ∙ l .inv .1 .0, rw (l .inv .1 .1) (put-take _ _ (w .symbols) (l .i) (omega arith) (omega arith))))
+    let more = put-take (a .out .now) (a .at) (w .symbols) (l .i) (omega arith) (omega arith) in
+    record { inside = omega arith; kept = length-set (l .out) _ _ ∙ l .inv .kept; written = rw (l .inv .written) more }
 
 same-length : tie.Need-same-length Inv-loop μ-loop
 same-length c = search needs
@@ -46,8 +56,9 @@ same-length c = search needs
 returns : tie.Need-returns Inv-loop μ-loop
 returns c =
     let l = c .before .loop in
-    let e : l .i ≡ c .before .before .args .t3 .len = omega arith in
-    l .inv .1 .1 ∙ ap (λ (n : ℕ). put (c .before .before .args .out .now) (c .before .before .args .at) (take n (c .before .before .args .t3 .symbols))) e
+    let a = c .before .before .args in
+    let e : l .i ≡ a .t3 .len = omega arith in
+    l .inv .written ∙ ap (λ (n : ℕ). put (a .out .now) (a .at) (take n (a .t3 .symbols))) e
 
 pub put-symbols-spec : {M : Type 1} → statement M
 put-symbols-spec =

@@ -5,7 +5,7 @@ use mathlib.Core.List.{List, [], _∷_}
 use Prim.Native.Nat.{ℕ, _+_}
 use native.Mathlib.Omega.{arith}
 use lib.ListN.{length, set, length-set}
-use Rattle.fields.specs.Writing.{put}
+use Rattle.fields.specs.promises.Writing.{put}
 use lib.Seq.{length-take-le}
 use Rattle.search.specs.Word.{symbolsIn}
 use Rattle.rule_bytes.specs.ListBytes.{encodeWord}
@@ -30,7 +30,9 @@ same-length c =
     let a = c .before .before .before .before .before .before .args in
     let hs : length (a .w .symbols) ≡ 31 = search needs in
     let n : length (symbolsIn (a .w)) ≡ a .w .len = length-take-le (a .w .len) (a .w .symbols) (omega arith) in
-    ap length (c .before .before .put-symbols .ensures) ∙ put-length (set (a .out .now) (a .at) (a .w .len)) (a .at + 1) (symbolsIn (a .w)) (simp length-set (omega arith)) ∙ length-set (a .out .now) (a .at) (a .w .len)
+    ap length (c .before .before .put-symbols .ensures)
+    ∙ put-length (set (a .out .now) (a .at) (a .w .len)) (a .at + 1) (symbolsIn (a .w)) (simp length-set (omega arith))
+    ∙ length-set (a .out .now) (a .at) (a .w .len)
 
 returns : tie.Need-returns
 unfolding encodeWord

@@ -1,4 +1,4 @@
--- Below ten, or from ten on.
+-- The digit is below ten, or from ten on.
 use borrow.Author.Tests.{lt-ltb, le-ltb}
 use Rattle.rule_text.specs.Text.{hexDigit}
 use borrow.Author.Needs.{needs}

@@ -15,13 +15,19 @@ use Rattle.rule_text.proofs.text.put_entry_text.Tie as tie
 put-word-text-requires : tie.Need-put-word-text-requires
 put-word-text-requires c κs = search needs
 
+abbrev start : tie.After-slice-known2 → tie.Start
+start c = c .before .before .before .before .before
+
 -- there is room for three bytes after the word
-ends : (c : tie.After-slice-known2) → (c .before .before .put-word-text .result + 3 ≤ length (c .before .before .before .before .before .args .out .now)) × (length (c .before .before .put-word-text .last .0) ≡ length (c .before .before .before .before .before .args .out .now))
+ends :
+    (c : tie.After-slice-known2)
+    → (c .before .before .put-word-text .result + 3 ≤ length (start c .args .out .now))
+    × (length (c .before .before .put-word-text .last .0) ≡ length (start c .args .out .now))
 ends c =
-    let a = c .before .before .before .before .before .args in
+    let a = start c .args in
     let r = c .before .before .put-word-text in
     let n : length (symbolsIn (a .w)) ≤ a .w .len = omega (arith, length-take (a .w .len) (a .w .symbols)) in
-    let m : c .before .before .put-word-text .result + 3 ≤ length (a .out .now) = omega (arith, word-length (symbolsIn (a .w)), r .ensures .1, c .before .before .before .before .before .pre .1) in
+    let m : r .result + 3 ≤ length (a .out .now) = omega (arith, word-length (symbolsIn (a .w)), r .ensures .1, start c .pre .1) in
     (m, ap length (r .ensures .0) ∙ put-length (a .out .now) (a .at) (wordText (symbolsIn (a .w))) (omega (arith, r .ensures .1)))
 
 slice-write-out : tie.Need-slice-write-out
@@ -39,11 +45,12 @@ same-length c = length-set (c .before .before .before .put-word-text .last .0) _
 
 returns : tie.Need-returns
 returns c =
-    let a = c .before .before .before .before .before .before .args in
+    let a = start (c .before) .args in
     let r = c .before .before .before .put-word-text in
     let e = ends (c .before) in
     let t : List ℕ = wordText (symbolsIn (a .w)) in
-    (rw (c .if1 .taken) (then-one (a .out .now) (a .at) t _ _ (r .ensures .0) (r .ensures .1) 10 (omega (arith, e .0))), rw (c .if1 .taken) (omega (arith, r .ensures .1, length-append t lineEnd)))
+    let written = then-one (a .out .now) (a .at) t _ _ (r .ensures .0) (r .ensures .1) 10 (omega (arith, e .0)) in
+    (rw (c .if1 .taken) written, rw (c .if1 .taken) (omega (arith, r .ensures .1, length-append t lineEnd)))
 
 slice-write-out-2 : tie.Need-slice-write-out-2
 slice-write-out-2 c =
@@ -80,11 +87,12 @@ same-length-2 c = simp length-set (ends (c .before) .1)
 
 returns-2 : tie.Need-returns-2
 returns-2 c =
-    let a = c .before .before .before .before .before .before .args in
+    let a = start (c .before) .args in
     let r = c .before .before .before .put-word-text in
     let e = ends (c .before) in
     let t : List ℕ = wordText (symbolsIn (a .w)) in
-    (rw (c .if1 .left) (then-three (a .out .now) (a .at) t _ _ (r .ensures .0) (r .ensures .1) 32 38 32 (omega (arith, e .0))), rw (c .if1 .left) (omega (arith, r .ensures .1, length-append t ampersand)))
+    let written = then-three (a .out .now) (a .at) t _ _ (r .ensures .0) (r .ensures .1) 32 38 32 (omega (arith, e .0)) in
+    (rw (c .if1 .left) written, rw (c .if1 .left) (omega (arith, r .ensures .1, length-append t ampersand)))
 
 pub put-entry-text-spec : {M : Type 1} → statement M
 put-entry-text-spec =

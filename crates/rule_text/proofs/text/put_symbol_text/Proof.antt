@@ -1,4 +1,4 @@
--- Two or three bytes.
+-- Two or three bytes, one after another.
 use native.Mathlib.Omega.{arith}
 use lib.ListN.{length-set}
 use Rattle.rule_text.specs.Text.{symbolText}
@@ -32,7 +32,8 @@ returns : tie.Need-returns
 unfolding symbolText
 returns c =
     let a = c .before .before .before .before .args in
-    (rw (c .if1 .taken, c .before .before .hex-digit .ensures, c .before .hex-digit2 .ensures) (put-two (a .out .now) (a .at) _ _ (omega arith)), rw (c .if1 .taken))
+    let written = put-two (a .out .now) (a .at) _ _ (omega arith) in
+    (rw (c .if1 .taken, c .before .before .hex-digit .ensures, c .before .hex-digit2 .ensures) written, rw (c .if1 .taken))
 
 add-out-2 : tie.Need-add-out-2
 add-out-2 c = search needs
@@ -50,7 +51,8 @@ returns-2 : tie.Need-returns-2
 unfolding symbolText
 returns-2 c =
     let a = c .before .before .before .before .args in
-    (rw (c .if1 .left, c .before .before .hex-digit .ensures, c .before .hex-digit2 .ensures) (put-three (a .out .now) (a .at) _ _ 46 (omega arith)), rw (c .if1 .left))
+    let written = put-three (a .out .now) (a .at) _ _ 46 (omega arith) in
+    (rw (c .if1 .left, c .before .before .hex-digit .ensures, c .before .hex-digit2 .ensures) written, rw (c .if1 .left))
 
 pub put-symbol-text-spec : {M : Type 1} → statement M
 put-symbol-text-spec =

@@ -1,23 +1,21 @@
--- Each turn of the loop is a candidate of the definition (SearchLaws), and one that is skipped leads nowhere (WalkLaws); places left fall over the calls, candidates left over the loop.
-use mathlib.Core.Path.{_≡_, refl, sym, ap, _∙_}
-use mathlib.Core.List.{List, [], _∷_}
+-- Each turn of the loop is a candidate of the definition (SearchLaws), and one that is skipped leads nowhere (TurnLaws, WalkLaws).
+-- Invariant: the candidates before v lead nowhere, and a party that `onward` lacks has no path along the places after this one.
+-- Measure: the candidates left; over the calls the places left, where a party search stands one above its candidate search.
+use mathlib.Core.Path.{_≡_, sym, _∙_}
+use mathlib.Core.List.{List}
 use mathlib.Core.Logic.{⊎-elim}
-use mathlib.Core.Option.{none}
+use mathlib.Core.Option.{Option, none}
+use Prim.Native.Nat.{ℕ, _+_, _-_, _*_, _<_}
 use native.Mathlib.Omega.{arith}
 use borrow.Author.Needs.{needs}
-use lib.ListN.{length, set}
-use Rattle.masks.specs.Mask.{withBit}
 use Rattle.masks.proofs.BitLaws.{test-no, test-off, test-on, with-code}
-use Rattle.rebac.specs.Forms.{Place}
-use Rattle.rebac.specs.Marked.{onto}
-use Rattle.lists.proofs.Cases.{both}
-use Rattle.search.specs.Search.{placeAt, placesFrom, searchFrom, FoundAs}
-use Rattle.search.proofs.SearchLaws.{onwards, through, search-start, search-last, onwards-end, onwards-skip, onwards-hit, through-visited, through-not, through-lost, through-on, through-target, places-cons, places-end, found-none, found-not, found-some, found-onto, beyond-search, beyond-last}
-use Rattle.search.specs.Walk.{Covers}
+use Rattle.search.specs.promises.Search.{placeAt, placesFrom}
+use Rattle.search.specs.promises.Walk.{Covers}
 use Rattle.search.specs.declared.search.Found.{Found}
-use Rattle.search.proofs.WalkLaws.{ones-bit}
-use Prim.Native.Nat.{ℕ, _+_, _-_, _*_, _≤_, _<_}
-use borrow.Fn.Kinds.{In}
+use Rattle.search.proofs.SearchLaws.{search-last, places-last, found-none, beyond-search, beyond-last}
+use Rattle.search.proofs.TurnLaws.{leads, Turn, turn-start, turn-end, turn-skip, turn-visited, turn-barred, turn-lost}
+use Rattle.search.proofs.TurnLaws.{target-nowhere, Tried, tried-failed, tried-found}
+use borrow.Fn.Kinds.{In, Out}
 use borrow.Fn.PlainCycle.{Measures, is, falls, and}
 use Rattle.search.proofs.search.candidate_search.Reads as candidate-search
 use Rattle.search.proofs.search.candidate_search.Kinds as candidate-search-kinds
@@ -33,6 +31,7 @@ use Rattle.search.proofs.search.+candidate_search+party_search.{stateme
 use Rattle.search.proofs.search.+candidate_search+party_search.Tie.{close}
 use Rattle.std.proofs.num.wrapping_add_u32.Reads as wrapping-add-u32-reads
 
+-- over the calls: the fourth argument is the place `at`
 abbrev μ-candidate-search : Measures 0 candidate-search-kinds.ps ℕ
 μ-candidate-search κs a = (31 - a .1 .1 .1 .0) * 2
 
@@ -41,19 +40,11 @@ abbrev μ-party-search : Measures 0 party-search-kinds.ps ℕ
 
 abbrev candidate-search-at : ℕ → In 0 candidate-search-kinds.ps
 candidate-search-at t =
-    and
-    0
-    candidate-search-kinds.ps
-    (is 0 candidate-search-kinds.ps μ-candidate-search t)
-    candidate-search.Pre
+    and 0 candidate-search-kinds.ps (is 0 candidate-search-kinds.ps μ-candidate-search t) candidate-search.Pre
 
 abbrev candidate-search-below : ℕ → In 0 candidate-search-kinds.ps
 candidate-search-below t =
-    and
-    0
-    candidate-search-kinds.ps
-    (falls 0 candidate-search-kinds.ps _<_ μ-candidate-search t)
-    candidate-search.Pre
+    and 0 candidate-search-kinds.ps (falls 0 candidate-search-kinds.ps _<_ μ-candidate-search t) candidate-search.Pre
 
 abbrev party-search-at : ℕ → In 0 party-search-kinds.ps
 party-search-at t =
@@ -61,833 +52,286 @@ party-search-at t =
 
 abbrev party-search-below : ℕ → In 0 party-search-kinds.ps
 party-search-below t =
-    and
-    0
-    party-search-kinds.ps
-    (falls 0 party-search-kinds.ps _<_ μ-party-search t)
-    party-search.Pre
+    and 0 party-search-kinds.ps (falls 0 party-search-kinds.ps _<_ μ-party-search t) party-search.Pre
 
 abbrev candidate-search-Inv-loop : candidate-search-lts.InvT-loop
 candidate-search-Inv-loop w fixed at n u target visited g len row onward₀ tried₀ v₀ onward tried v =
-    (v ≤ n) × (Covers n g target (placesFrom w fixed (at + 1)) visited onward n × (searchFrom n g visited u target (placesFrom w fixed at) ≡ onwards n g visited u target (placeAt w fixed at) (placesFrom w fixed (at + 1)) v))
+    Turn w fixed at n u target visited g onward v
 
 abbrev candidate-search-μ-loop : candidate-search-lts.MeasureT-loop
 candidate-search-μ-loop w fixed at n u target visited g len row onward₀ tried₀ v₀ onward tried v = n - v
 
-candidate-search-mul-row : (t : ℕ) → candidate-search-lts.Need-mul-row (
-  allows-reads.Asked,
-  allows-reads.Learnt,
-  none-reads.Asked,
-  none-reads.Learnt,
-  party-search-below t,
-  party-search.Post,
-  last-step-reads.Asked,
-  last-step-reads.Learnt,
-  wrapping-add-u32-reads.Asked,
-  wrapping-add-u32-reads.Learnt,
-  walkable-reads.Asked,
-  walkable-reads.Learnt,
-) (candidate-search-at t) candidate-search.Post candidate-search-Inv-loop candidate-search-μ-loop
-candidate-search-mul-row t c = search needs
+-- at the measure t
+module _ (t : ℕ) where
+  -- what the functions called require and promise
+  abbrev candidate-claims : candidate-search-lts.Claims
+  candidate-claims = (
+    allows-reads.Asked,
+    allows-reads.Learnt,
+    none-reads.Asked,
+    none-reads.Learnt,
+    party-search-below t,
+    party-search.Post,
+    last-step-reads.Asked,
+    last-step-reads.Learnt,
+    wrapping-add-u32-reads.Asked,
+    wrapping-add-u32-reads.Learnt,
+    walkable-reads.Asked,
+    walkable-reads.Learnt,
+  )
 
-candidate-search-element-copy-out-row : (t : ℕ) → candidate-search-lts.Need-element-copy-out-row (
-  allows-reads.Asked,
-  allows-reads.Learnt,
-  none-reads.Asked,
-  none-reads.Learnt,
-  party-search-below t,
-  party-search.Post,
-  last-step-reads.Asked,
-  last-step-reads.Learnt,
-  wrapping-add-u32-reads.Asked,
-  wrapping-add-u32-reads.Learnt,
-  walkable-reads.Asked,
-  walkable-reads.Learnt,
-) (candidate-search-at t) candidate-search.Post candidate-search-Inv-loop candidate-search-μ-loop
-candidate-search-element-copy-out-row t c = search needs
+  abbrev party-claims : party-search-lts.Claims
+  party-claims = (candidate-search-below t, candidate-search.Post, last-step-reads.Asked, last-step-reads.Learnt)
 
-candidate-search-loop-holds : (t : ℕ) → candidate-search-lts.Need-loop-holds (
-  allows-reads.Asked,
-  allows-reads.Learnt,
-  none-reads.Asked,
-  none-reads.Learnt,
-  party-search-below t,
-  party-search.Post,
-  last-step-reads.Asked,
-  last-step-reads.Learnt,
-  wrapping-add-u32-reads.Asked,
-  wrapping-add-u32-reads.Learnt,
-  walkable-reads.Asked,
-  walkable-reads.Learnt,
-) (candidate-search-at t) candidate-search.Post candidate-search-Inv-loop candidate-search-μ-loop
-candidate-search-loop-holds t c =
-    let a = c .before .args in
-    let p = c .before .pre .1 .1 in
-    let n : length (a .w .symbols) ≡ 31 = search needs in (
-      search needs,
-      (λ v h e. both (ones-bit 32 v (omega (arith, p .parties))) e, ap (searchFrom (a .n) (a .t1) (a .visited) (a .u) (a .target)) (places-cons (a .w) (a .fixed) (a .at) (p .place) (omega (arith, p .short .len))) ∙ search-start (a .n) (a .t1) (a .visited) (a .u) (a .target) (placeAt (a .w) (a .fixed) (a .at)) (placesFrom (a .w) (a .fixed) (a .at + 1))),
-    )
+  -- a need of each function, or a place of its proof, with these claims and the invariant
+  abbrev Candidate : (
+      candidate-search-lts.Claims → In 0 candidate-search-kinds.ps → Out 0 candidate-search-kinds.ps candidate-search-kinds.r
+      → candidate-search-lts.InvT-loop → candidate-search-lts.MeasureT-loop → Type 0) → Type 0
+  Candidate N = N candidate-claims (candidate-search-at t) candidate-search.Post candidate-search-Inv-loop candidate-search-μ-loop
 
-candidate-search-cast-c : (t : ℕ) → candidate-search-lts.Need-cast-c (
-  allows-reads.Asked,
-  allows-reads.Learnt,
-  none-reads.Asked,
-  none-reads.Learnt,
-  party-search-below t,
-  party-search.Post,
-  last-step-reads.Asked,
-  last-step-reads.Learnt,
-  wrapping-add-u32-reads.Asked,
-  wrapping-add-u32-reads.Learnt,
-  walkable-reads.Asked,
-  walkable-reads.Learnt,
-) (candidate-search-at t) candidate-search.Post candidate-search-Inv-loop candidate-search-μ-loop
-candidate-search-cast-c t c = search needs
+  abbrev Party : (party-search-lts.Claims → In 0 party-search-kinds.ps → Out 0 party-search-kinds.ps party-search-kinds.r → Type 0) → Type 0
+  Party N = N party-claims (party-search-at t) party-search.Post
 
-candidate-search-shr-if2 : (t : ℕ) → candidate-search-lts.Need-shr-if2 (
-  allows-reads.Asked,
-  allows-reads.Learnt,
-  none-reads.Asked,
-  none-reads.Learnt,
-  party-search-below t,
-  party-search.Post,
-  last-step-reads.Asked,
-  last-step-reads.Learnt,
-  wrapping-add-u32-reads.Asked,
-  wrapping-add-u32-reads.Learnt,
-  walkable-reads.Asked,
-  walkable-reads.Learnt,
-) (candidate-search-at t) candidate-search.Post candidate-search-Inv-loop candidate-search-μ-loop
-candidate-search-shr-if2 t c = search needs
+  -- from the place at which a candidate is tried: its turn, the loop's place, and the start. What is required is there `.pre .1`:
+  -- that a place follows, and `PartyQuery`
+  abbrev turned : Candidate candidate-search-lts.After-none → Candidate candidate-search-lts.In-loop
+  turned c = c .before .before .before .before .before .before .before
 
-candidate-search-shr-if3 : (t : ℕ) → candidate-search-lts.Need-shr-if3 (
-  allows-reads.Asked,
-  allows-reads.Learnt,
-  none-reads.Asked,
-  none-reads.Learnt,
-  party-search-below t,
-  party-search.Post,
-  last-step-reads.Asked,
-  last-step-reads.Learnt,
-  wrapping-add-u32-reads.Asked,
-  wrapping-add-u32-reads.Learnt,
-  walkable-reads.Asked,
-  walkable-reads.Learnt,
-) (candidate-search-at t) candidate-search.Post candidate-search-Inv-loop candidate-search-μ-loop
-candidate-search-shr-if3 t c = search needs
+  abbrev looped : Candidate candidate-search-lts.After-none → Candidate candidate-search-lts.At-loop
+  looped c = turned c .before
 
-candidate-search-mul-allows : (t : ℕ) → candidate-search-lts.Need-mul-allows (
-  allows-reads.Asked,
-  allows-reads.Learnt,
-  none-reads.Asked,
-  none-reads.Learnt,
-  party-search-below t,
-  party-search.Post,
-  last-step-reads.Asked,
-  last-step-reads.Learnt,
-  wrapping-add-u32-reads.Asked,
-  wrapping-add-u32-reads.Learnt,
-  walkable-reads.Asked,
-  walkable-reads.Learnt,
-) (candidate-search-at t) candidate-search.Post candidate-search-Inv-loop candidate-search-μ-loop
-candidate-search-mul-allows t c = search needs
+  abbrev started : Candidate candidate-search-lts.After-none → Candidate candidate-search-lts.Start
+  started c = looped c .before .before
 
-candidate-search-element-copy-out-allows :
-    (t : ℕ) → candidate-search-lts.Need-element-copy-out-allows (
-      allows-reads.Asked,
-      allows-reads.Learnt,
-      none-reads.Asked,
-      none-reads.Learnt,
-      party-search-below t,
-      party-search.Post,
-      last-step-reads.Asked,
-      last-step-reads.Learnt,
-      wrapping-add-u32-reads.Asked,
-      wrapping-add-u32-reads.Learnt,
-      walkable-reads.Asked,
-      walkable-reads.Learnt,
-    )
-    (candidate-search-at t)
-    candidate-search.Post
-    candidate-search-Inv-loop
-    candidate-search-μ-loop
-candidate-search-element-copy-out-allows t c = search needs
+  candidate-search-mul-row : Candidate candidate-search-lts.Need-mul-row
+  candidate-search-mul-row c = search needs
 
-candidate-search-allows-requires : (t : ℕ) → candidate-search-lts.Need-allows-requires (
-  allows-reads.Asked,
-  allows-reads.Learnt,
-  none-reads.Asked,
-  none-reads.Learnt,
-  party-search-below t,
-  party-search.Post,
-  last-step-reads.Asked,
-  last-step-reads.Learnt,
-  wrapping-add-u32-reads.Asked,
-  wrapping-add-u32-reads.Learnt,
-  walkable-reads.Asked,
-  walkable-reads.Learnt,
-) (candidate-search-at t) candidate-search.Post candidate-search-Inv-loop candidate-search-μ-loop
-candidate-search-allows-requires t c κs =
-    (c .before .before .before .before .before .before .before .pre .1 .1 .short, c .before .before .before .before .before .before .before .pre .1 .1 .place)
+  candidate-search-element-copy-out-row : Candidate candidate-search-lts.Need-element-copy-out-row
+  candidate-search-element-copy-out-row c = search needs
 
-candidate-search-shl-more : (t : ℕ) → candidate-search-lts.Need-shl-more (
-  allows-reads.Asked,
-  allows-reads.Learnt,
-  none-reads.Asked,
-  none-reads.Learnt,
-  party-search-below t,
-  party-search.Post,
-  last-step-reads.Asked,
-  last-step-reads.Learnt,
-  wrapping-add-u32-reads.Asked,
-  wrapping-add-u32-reads.Learnt,
-  walkable-reads.Asked,
-  walkable-reads.Learnt,
-) (candidate-search-at t) candidate-search.Post candidate-search-Inv-loop candidate-search-μ-loop
-candidate-search-shl-more t c = search needs
+  candidate-search-loop-holds : Candidate candidate-search-lts.Need-loop-holds
+  candidate-search-loop-holds c = turn-start (c .before .pre .1 .1)
 
-candidate-search-none-requires : (t : ℕ) → candidate-search-lts.Need-none-requires (
-  allows-reads.Asked,
-  allows-reads.Learnt,
-  none-reads.Asked,
-  none-reads.Learnt,
-  party-search-below t,
-  party-search.Post,
-  last-step-reads.Asked,
-  last-step-reads.Learnt,
-  wrapping-add-u32-reads.Asked,
-  wrapping-add-u32-reads.Learnt,
-  walkable-reads.Asked,
-  walkable-reads.Learnt,
-) (candidate-search-at t) candidate-search.Post candidate-search-Inv-loop candidate-search-μ-loop
-candidate-search-none-requires t c κs = search needs
+  candidate-search-cast-c : Candidate candidate-search-lts.Need-cast-c
+  candidate-search-cast-c c = search needs
 
-candidate-search-add-if5 : (t : ℕ) → candidate-search-lts.Need-add-if5 (
-  allows-reads.Asked,
-  allows-reads.Learnt,
-  none-reads.Asked,
-  none-reads.Learnt,
-  party-search-below t,
-  party-search.Post,
-  last-step-reads.Asked,
-  last-step-reads.Learnt,
-  wrapping-add-u32-reads.Asked,
-  wrapping-add-u32-reads.Learnt,
-  walkable-reads.Asked,
-  walkable-reads.Learnt,
-) (candidate-search-at t) candidate-search.Post candidate-search-Inv-loop candidate-search-μ-loop
-candidate-search-add-if5 t c = search needs
+  candidate-search-shr-if2 : Candidate candidate-search-lts.Need-shr-if2
+  candidate-search-shr-if2 c = search needs
 
-candidate-search-add-party-search : (t : ℕ) → candidate-search-lts.Need-add-party-search (
-  allows-reads.Asked,
-  allows-reads.Learnt,
-  none-reads.Asked,
-  none-reads.Learnt,
-  party-search-below t,
-  party-search.Post,
-  last-step-reads.Asked,
-  last-step-reads.Learnt,
-  wrapping-add-u32-reads.Asked,
-  wrapping-add-u32-reads.Learnt,
-  walkable-reads.Asked,
-  walkable-reads.Learnt,
-) (candidate-search-at t) candidate-search.Post candidate-search-Inv-loop candidate-search-μ-loop
-candidate-search-add-party-search t c = search needs
+  candidate-search-shr-if3 : Candidate candidate-search-lts.Need-shr-if3
+  candidate-search-shr-if3 c = search needs
 
-candidate-search-party-search-requires : (t : ℕ) → candidate-search-lts.Need-party-search-requires (
-  allows-reads.Asked,
-  allows-reads.Learnt,
-  none-reads.Asked,
-  none-reads.Learnt,
-  party-search-below t,
-  party-search.Post,
-  last-step-reads.Asked,
-  last-step-reads.Learnt,
-  wrapping-add-u32-reads.Asked,
-  wrapping-add-u32-reads.Learnt,
-  walkable-reads.Asked,
-  walkable-reads.Learnt,
-) (candidate-search-at t) candidate-search.Post candidate-search-Inv-loop candidate-search-μ-loop
-candidate-search-party-search-requires t c κs =
-    let x = c .before .before .before .before .before .before .before .before .before .before .before in
-    let p = x .pre .1 .1 in
-    (omega (arith, x .pre .0, x .pre .1 .0, p .short .len), record { short = p .short; place = x .pre .1 .0; parties = p .parties; start = c .before .before .before .before .before .before .before .before .loop-test .taken; end = p .end })
+  candidate-search-mul-allows : Candidate candidate-search-lts.Need-mul-allows
+  candidate-search-mul-allows c = search needs
 
-candidate-search-mul-beyond : (t : ℕ) → candidate-search-lts.Need-mul-beyond (
-  allows-reads.Asked,
-  allows-reads.Learnt,
-  none-reads.Asked,
-  none-reads.Learnt,
-  party-search-below t,
-  party-search.Post,
-  last-step-reads.Asked,
-  last-step-reads.Learnt,
-  wrapping-add-u32-reads.Asked,
-  wrapping-add-u32-reads.Learnt,
-  walkable-reads.Asked,
-  walkable-reads.Learnt,
-) (candidate-search-at t) candidate-search.Post candidate-search-Inv-loop candidate-search-μ-loop
-candidate-search-mul-beyond t c = search needs
+  candidate-search-element-copy-out-allows : Candidate candidate-search-lts.Need-element-copy-out-allows
+  candidate-search-element-copy-out-allows c = search needs
 
-candidate-search-element-copy-out-beyond :
-    (t : ℕ) → candidate-search-lts.Need-element-copy-out-beyond (
-      allows-reads.Asked,
-      allows-reads.Learnt,
-      none-reads.Asked,
-      none-reads.Learnt,
-      party-search-below t,
-      party-search.Post,
-      last-step-reads.Asked,
-      last-step-reads.Learnt,
-      wrapping-add-u32-reads.Asked,
-      wrapping-add-u32-reads.Learnt,
-      walkable-reads.Asked,
-      walkable-reads.Learnt,
-    )
-    (candidate-search-at t)
-    candidate-search.Post
-    candidate-search-Inv-loop
-    candidate-search-μ-loop
-candidate-search-element-copy-out-beyond t c = search needs
+  candidate-search-allows-requires : Candidate candidate-search-lts.Need-allows-requires
+  candidate-search-allows-requires c κs = search needs
 
-candidate-search-add-last-step : (t : ℕ) → candidate-search-lts.Need-add-last-step (
-  allows-reads.Asked,
-  allows-reads.Learnt,
-  none-reads.Asked,
-  none-reads.Learnt,
-  party-search-below t,
-  party-search.Post,
-  last-step-reads.Asked,
-  last-step-reads.Learnt,
-  wrapping-add-u32-reads.Asked,
-  wrapping-add-u32-reads.Learnt,
-  walkable-reads.Asked,
-  walkable-reads.Learnt,
-) (candidate-search-at t) candidate-search.Post candidate-search-Inv-loop candidate-search-μ-loop
-candidate-search-add-last-step t c = search needs
+  candidate-search-shl-more : Candidate candidate-search-lts.Need-shl-more
+  candidate-search-shl-more c = search needs
 
-candidate-search-mul-last-step : (t : ℕ) → candidate-search-lts.Need-mul-last-step (
-  allows-reads.Asked,
-  allows-reads.Learnt,
-  none-reads.Asked,
-  none-reads.Learnt,
-  party-search-below t,
-  party-search.Post,
-  last-step-reads.Asked,
-  last-step-reads.Learnt,
-  wrapping-add-u32-reads.Asked,
-  wrapping-add-u32-reads.Learnt,
-  walkable-reads.Asked,
-  walkable-reads.Learnt,
-) (candidate-search-at t) candidate-search.Post candidate-search-Inv-loop candidate-search-μ-loop
-candidate-search-mul-last-step t c = search needs
+  candidate-search-none-requires : Candidate candidate-search-lts.Need-none-requires
+  candidate-search-none-requires c κs = search needs
 
-candidate-search-element-copy-out-last-step :
-    (t : ℕ) → candidate-search-lts.Need-element-copy-out-last-step (
-      allows-reads.Asked,
-      allows-reads.Learnt,
-      none-reads.Asked,
-      none-reads.Learnt,
-      party-search-below t,
-      party-search.Post,
-      last-step-reads.Asked,
-      last-step-reads.Learnt,
-      wrapping-add-u32-reads.Asked,
-      wrapping-add-u32-reads.Learnt,
-      walkable-reads.Asked,
-      walkable-reads.Learnt,
-    )
-    (candidate-search-at t)
-    candidate-search.Post
-    candidate-search-Inv-loop
-    candidate-search-μ-loop
-candidate-search-element-copy-out-last-step t c = search needs
+  candidate-search-add-if5 : Candidate candidate-search-lts.Need-add-if5
+  candidate-search-add-if5 c = search needs
 
-candidate-search-cast-last-step : (t : ℕ) → candidate-search-lts.Need-cast-last-step (
-  allows-reads.Asked,
-  allows-reads.Learnt,
-  none-reads.Asked,
-  none-reads.Learnt,
-  party-search-below t,
-  party-search.Post,
-  last-step-reads.Asked,
-  last-step-reads.Learnt,
-  wrapping-add-u32-reads.Asked,
-  wrapping-add-u32-reads.Learnt,
-  walkable-reads.Asked,
-  walkable-reads.Learnt,
-) (candidate-search-at t) candidate-search.Post candidate-search-Inv-loop candidate-search-μ-loop
-candidate-search-cast-last-step t c = search needs
+  candidate-search-add-party-search : Candidate candidate-search-lts.Need-add-party-search
+  candidate-search-add-party-search c = search needs
 
-candidate-search-last-step-requires : (t : ℕ) → candidate-search-lts.Need-last-step-requires (
-  allows-reads.Asked,
-  allows-reads.Learnt,
-  none-reads.Asked,
-  none-reads.Learnt,
-  party-search-below t,
-  party-search.Post,
-  last-step-reads.Asked,
-  last-step-reads.Learnt,
-  wrapping-add-u32-reads.Asked,
-  wrapping-add-u32-reads.Learnt,
-  walkable-reads.Asked,
-  walkable-reads.Learnt,
-) (candidate-search-at t) candidate-search.Post candidate-search-Inv-loop candidate-search-μ-loop
-candidate-search-last-step-requires t c κs =
-    let x = c .before .before .before .before .before .before .before .before .before .before .before .before .before in
-    let p = x .pre .1 .1 in
-    (p .short, (x .pre .1 .0, omega (arith, p .parties, p .end)))
+  candidate-search-party-search-requires : Candidate candidate-search-lts.Need-party-search-requires
+  candidate-search-party-search-requires c κs =
+      let x = started (c .before) in
+      let p = x .pre .1 .1 in
+      let party = turned (c .before) .loop-test .taken in (
+        omega (arith, x .pre .0, x .pre .1 .0, p .short .len),
+        record { short = p .short; place = x .pre .1 .0; parties = p .parties; start = party; end = p .end },
+      )
 
-candidate-search-cast-f : (t : ℕ) → candidate-search-lts.Need-cast-f (
-  allows-reads.Asked,
-  allows-reads.Learnt,
-  none-reads.Asked,
-  none-reads.Learnt,
-  party-search-below t,
-  party-search.Post,
-  last-step-reads.Asked,
-  last-step-reads.Learnt,
-  wrapping-add-u32-reads.Asked,
-  wrapping-add-u32-reads.Learnt,
-  walkable-reads.Asked,
-  walkable-reads.Learnt,
-) (candidate-search-at t) candidate-search.Post candidate-search-Inv-loop candidate-search-μ-loop
-candidate-search-cast-f t c = search needs
+  candidate-search-mul-beyond : Candidate candidate-search-lts.Need-mul-beyond
+  candidate-search-mul-beyond c = search needs
 
-candidate-search-add-f : (t : ℕ) → candidate-search-lts.Need-add-f (
-  allows-reads.Asked,
-  allows-reads.Learnt,
-  none-reads.Asked,
-  none-reads.Learnt,
-  party-search-below t,
-  party-search.Post,
-  last-step-reads.Asked,
-  last-step-reads.Learnt,
-  wrapping-add-u32-reads.Asked,
-  wrapping-add-u32-reads.Learnt,
-  walkable-reads.Asked,
-  walkable-reads.Learnt,
-) (candidate-search-at t) candidate-search.Post candidate-search-Inv-loop candidate-search-μ-loop
-candidate-search-add-f t c = search needs
+  candidate-search-element-copy-out-beyond : Candidate candidate-search-lts.Need-element-copy-out-beyond
+  candidate-search-element-copy-out-beyond c = search needs
 
-candidate-search-element-write-f : (t : ℕ) → candidate-search-lts.Need-element-write-f (
-  allows-reads.Asked,
-  allows-reads.Learnt,
-  none-reads.Asked,
-  none-reads.Learnt,
-  party-search-below t,
-  party-search.Post,
-  last-step-reads.Asked,
-  last-step-reads.Learnt,
-  wrapping-add-u32-reads.Asked,
-  wrapping-add-u32-reads.Learnt,
-  walkable-reads.Asked,
-  walkable-reads.Learnt,
-) (candidate-search-at t) candidate-search.Post candidate-search-Inv-loop candidate-search-μ-loop
-candidate-search-element-write-f t c = search needs
+  candidate-search-add-last-step : Candidate candidate-search-lts.Need-add-last-step
+  candidate-search-add-last-step c = search needs
 
-candidate-search-returns : (t : ℕ) → candidate-search-lts.Need-returns (
-  allows-reads.Asked,
-  allows-reads.Learnt,
-  none-reads.Asked,
-  none-reads.Learnt,
-  party-search-below t,
-  party-search.Post,
-  last-step-reads.Asked,
-  last-step-reads.Learnt,
-  wrapping-add-u32-reads.Asked,
-  wrapping-add-u32-reads.Learnt,
-  walkable-reads.Asked,
-  walkable-reads.Learnt,
-) (candidate-search-at t) candidate-search.Post candidate-search-Inv-loop candidate-search-μ-loop
-candidate-search-returns t c =
-    let x = c .before .before .before .before .before .before .before .before .before .before .before .before in
-    let a = x .args in
-    let p = x .pre .1 .1 in
-    let l = c .before .before .before .before .before .before .before .before .before .before .loop in
-    let n : length (a .w .symbols) ≡ 31 = search needs in
-    let s : Place = placeAt (a .w) (a .fixed) (a .at) in
-    let xs : List Place = placesFrom (a .w) (a .fixed) (a .at + 1) in
-    let m = with-code 32 (a .visited) (l .v) (omega (arith, p .parties, c .before .before .before .before .before .before .before .before .before .loop-test .taken)) in
-    let h : FoundAs (a .at + 1) (withBit (a .visited) (l .v)) (searchFrom (a .n) (a .t1) (withBit (a .visited) (l .v)) (l .v) (a .target) xs) (c .before .if5 .f) =
-    ⊎-elim
-    (λ w. beyond-search (a .n) (a .t1) (a .w) (a .fixed) (a .at) (a .visited) (a .target) (l .v) _ m _ _ (w .2) (w .1 .ensures))
-    (λ w. beyond-last (a .n) (a .t1) (a .w) (a .fixed) (a .at) (a .visited) (a .target) (l .v) _ m _ _ (w .4) (omega (arith, w .0 .left, x .pre .1 .0)) (omega (arith, p .short .len)) (p .end) (w .3 .ensures))
-    (c .before .if5 .came) in
-    let bound : a .at + 1 < 32 = omega (arith, x .pre .1 .0, p .short .len) in
-    let f : Found = c .before .if5 .f in
-    let o = found-some (a .at + 1) (withBit (a .visited) (l .v)) (searchFrom (a .n) (a .t1) (withBit (a .visited) (l .v)) (l .v) (a .target) xs) (c .before .if5 .f) h (c .if6 .taken) in
-    let on = sym (c .before .before .before .before .allows .ensures) ∙ c .before .before .before .if4 .taken in
-    let off = test-no (a .visited) (l .v) (c .before .before .before .before .before .before .before .if2 .taken) in
-    let q = through-on (a .n) (a .t1) (a .visited) (a .u) (a .target) s xs (l .v) off on ∙ ap (onto (l .v)) (o .1) in
-    rw (l .inv .1 .1 ∙ onwards-hit (a .n) (a .t1) (a .visited) (a .u) (a .target) s xs (l .v) (l .v ∷ o .0) (c .before .before .before .before .before .before .before .before .before .loop-test .taken) q)
-    (found-onto (a .at) (a .visited) (l .v) (o .0) f (record { found = f .found; visited = f .visited; parties = set (f .parties) (a .at + 1) (l .v); tried = f .tried }) bound (rw (o .1) at h) (c .if6 .taken) refl refl)
+  candidate-search-mul-last-step : Candidate candidate-search-lts.Need-mul-last-step
+  candidate-search-mul-last-step c = search needs
 
-candidate-search-add-if7 : (t : ℕ) → candidate-search-lts.Need-add-if7 (
-  allows-reads.Asked,
-  allows-reads.Learnt,
-  none-reads.Asked,
-  none-reads.Learnt,
-  party-search-below t,
-  party-search.Post,
-  last-step-reads.Asked,
-  last-step-reads.Learnt,
-  wrapping-add-u32-reads.Asked,
-  wrapping-add-u32-reads.Learnt,
-  walkable-reads.Asked,
-  walkable-reads.Learnt,
-) (candidate-search-at t) candidate-search.Post candidate-search-Inv-loop candidate-search-μ-loop
-candidate-search-add-if7 t c = search needs
+  candidate-search-element-copy-out-last-step : Candidate candidate-search-lts.Need-element-copy-out-last-step
+  candidate-search-element-copy-out-last-step c = search needs
 
-candidate-search-wrapping-add-u32-requires :
-    (t : ℕ) → candidate-search-lts.Need-wrapping-add-u32-requires (
-      allows-reads.Asked,
-      allows-reads.Learnt,
-      none-reads.Asked,
-      none-reads.Learnt,
-      party-search-below t,
-      party-search.Post,
-      last-step-reads.Asked,
-      last-step-reads.Learnt,
-      wrapping-add-u32-reads.Asked,
-      wrapping-add-u32-reads.Learnt,
-      walkable-reads.Asked,
-      walkable-reads.Learnt,
-    )
-    (candidate-search-at t)
-    candidate-search.Post
-    candidate-search-Inv-loop
-    candidate-search-μ-loop
-candidate-search-wrapping-add-u32-requires t c κs = search needs
+  candidate-search-cast-last-step : Candidate candidate-search-lts.Need-cast-last-step
+  candidate-search-cast-last-step c = search needs
 
-candidate-search-sub-if9 : (t : ℕ) → candidate-search-lts.Need-sub-if9 (
-  allows-reads.Asked,
-  allows-reads.Learnt,
-  none-reads.Asked,
-  none-reads.Learnt,
-  party-search-below t,
-  party-search.Post,
-  last-step-reads.Asked,
-  last-step-reads.Learnt,
-  wrapping-add-u32-reads.Asked,
-  wrapping-add-u32-reads.Learnt,
-  walkable-reads.Asked,
-  walkable-reads.Learnt,
-) (candidate-search-at t) candidate-search.Post candidate-search-Inv-loop candidate-search-μ-loop
-candidate-search-sub-if9 t c = search needs
+  candidate-search-last-step-requires : Candidate candidate-search-lts.Need-last-step-requires
+  candidate-search-last-step-requires c κs =
+      let x = started (c .before .before .before) in
+      let p = x .pre .1 .1 in
+      record { short = p .short; place = x .pre .1 .0; end = omega (arith, p .parties, p .end) }
 
-candidate-search-mul-if9 : (t : ℕ) → candidate-search-lts.Need-mul-if9 (
-  allows-reads.Asked,
-  allows-reads.Learnt,
-  none-reads.Asked,
-  none-reads.Learnt,
-  party-search-below t,
-  party-search.Post,
-  last-step-reads.Asked,
-  last-step-reads.Learnt,
-  wrapping-add-u32-reads.Asked,
-  wrapping-add-u32-reads.Learnt,
-  walkable-reads.Asked,
-  walkable-reads.Learnt,
-) (candidate-search-at t) candidate-search.Post candidate-search-Inv-loop candidate-search-μ-loop
-candidate-search-mul-if9 t c = search needs
+  candidate-search-cast-f : Candidate candidate-search-lts.Need-cast-f
+  candidate-search-cast-f c = search needs
 
-candidate-search-cast-if9 : (t : ℕ) → candidate-search-lts.Need-cast-if9 (
-  allows-reads.Asked,
-  allows-reads.Learnt,
-  none-reads.Asked,
-  none-reads.Learnt,
-  party-search-below t,
-  party-search.Post,
-  last-step-reads.Asked,
-  last-step-reads.Learnt,
-  wrapping-add-u32-reads.Asked,
-  wrapping-add-u32-reads.Learnt,
-  walkable-reads.Asked,
-  walkable-reads.Learnt,
-) (candidate-search-at t) candidate-search.Post candidate-search-Inv-loop candidate-search-μ-loop
-candidate-search-cast-if9 t c = search needs
+  candidate-search-add-f : Candidate candidate-search-lts.Need-add-f
+  candidate-search-add-f c = search needs
 
-candidate-search-add-walkable : (t : ℕ) → candidate-search-lts.Need-add-walkable (
-  allows-reads.Asked,
-  allows-reads.Learnt,
-  none-reads.Asked,
-  none-reads.Learnt,
-  party-search-below t,
-  party-search.Post,
-  last-step-reads.Asked,
-  last-step-reads.Learnt,
-  wrapping-add-u32-reads.Asked,
-  wrapping-add-u32-reads.Learnt,
-  walkable-reads.Asked,
-  walkable-reads.Learnt,
-) (candidate-search-at t) candidate-search.Post candidate-search-Inv-loop candidate-search-μ-loop
-candidate-search-add-walkable t c = search needs
+  candidate-search-element-write-f : Candidate candidate-search-lts.Need-element-write-f
+  candidate-search-element-write-f c = search needs
 
-candidate-search-walkable-requires : (t : ℕ) → candidate-search-lts.Need-walkable-requires (
-  allows-reads.Asked,
-  allows-reads.Learnt,
-  none-reads.Asked,
-  none-reads.Learnt,
-  party-search-below t,
-  party-search.Post,
-  last-step-reads.Asked,
-  last-step-reads.Learnt,
-  wrapping-add-u32-reads.Asked,
-  wrapping-add-u32-reads.Learnt,
-  walkable-reads.Asked,
-  walkable-reads.Learnt,
-) (candidate-search-at t) candidate-search.Post candidate-search-Inv-loop candidate-search-μ-loop
-candidate-search-walkable-requires t c κs =
-    let x = c .before .before .before .before .before .before .before .before .before .before .before .before .before .before .before .before in
-    let p = x .pre .1 .1 in
-    (p .short, (p .parties, (p .end, omega (arith, x .pre .1 .0))))
+  -- a candidate that was tried (TurnLaws)
+  abbrev TriedAt : Candidate candidate-search-lts.At-loop → Found → Type 0
+  TriedAt l f =
+      let a = l .before .before .args in
+      Tried (a .w) (a .fixed) (a .at) (a .n) (a .u) (a .target) (a .visited) (a .t1) (l .loop .onward) (l .loop .v) f
 
-candidate-search-add-v : (t : ℕ) → candidate-search-lts.Need-add-v (
-  allows-reads.Asked,
-  allows-reads.Learnt,
-  none-reads.Asked,
-  none-reads.Learnt,
-  party-search-below t,
-  party-search.Post,
-  last-step-reads.Asked,
-  last-step-reads.Learnt,
-  wrapping-add-u32-reads.Asked,
-  wrapping-add-u32-reads.Learnt,
-  walkable-reads.Asked,
-  walkable-reads.Learnt,
-) (candidate-search-at t) candidate-search.Post candidate-search-Inv-loop candidate-search-μ-loop
-candidate-search-add-v t c = search needs
+  tried : (c : Candidate candidate-search-lts.Joined5) → TriedAt (looped (c .before)) (c .if5 .f)
+  tried c =
+      let l = looped (c .before) in
+      let x = started (c .before) in
+      let a = x .args in
+      let p = x .pre .1 .1 in
+      let v = l .loop .v in
+      let party = turned (c .before) .loop-test .taken in
+      let more = with-code 32 (a .visited) v (omega (arith, p .parties, party)) in
+      record {
+        query = p;
+        next = x .pre .1 .0;
+        turn = l .loop .inv;
+        party = party;
+        off = test-no (a .visited) v (c .before .before .before .before .before .before .if2 .taken);
+        on = sym (c .before .before .before .allows .ensures) ∙ c .before .before .if4 .taken;
+        beyond = ⊎-elim
+            (λ y. beyond-search p (a .t1) (a .fixed) (a .visited) v more (y .2) (y .1 .ensures))
+            (λ y. beyond-last p (a .t1) (a .fixed) (a .visited) v more (y .4) (omega (arith, y .0 .left, x .pre .1 .0)) (y .3 .ensures))
+            (c .if5 .came);
+      }
 
-candidate-search-loop-less : (t : ℕ) → candidate-search-lts.Need-loop-less (
-  allows-reads.Asked,
-  allows-reads.Learnt,
-  none-reads.Asked,
-  none-reads.Learnt,
-  party-search-below t,
-  party-search.Post,
-  last-step-reads.Asked,
-  last-step-reads.Learnt,
-  wrapping-add-u32-reads.Asked,
-  wrapping-add-u32-reads.Learnt,
-  walkable-reads.Asked,
-  walkable-reads.Learnt,
-) (candidate-search-at t) candidate-search.Post candidate-search-Inv-loop candidate-search-μ-loop
-candidate-search-loop-less t c = search needs
+  candidate-search-returns : Candidate candidate-search-lts.Need-returns
+  candidate-search-returns c = tried-found (tried (c .before)) (c .if6 .taken)
 
--- a candidate that was tried and failed
-failed : (t : ℕ) (c : candidate-search-lts.Else6 (
-  allows-reads.Asked,
-  allows-reads.Learnt,
-  none-reads.Asked,
-  none-reads.Learnt,
-  party-search-below t,
-  party-search.Post,
-  last-step-reads.Asked,
-  last-step-reads.Learnt,
-  wrapping-add-u32-reads.Asked,
-  wrapping-add-u32-reads.Learnt,
-  walkable-reads.Asked,
-  walkable-reads.Learnt,
-) (candidate-search-at t) candidate-search.Post candidate-search-Inv-loop candidate-search-μ-loop)
-    → through (c .before .before .before .before .before .before .before .before .before .before .before .before .args .n) (c .before .before .before .before .before .before .before .before .before .before .before .before .args .t1) (c .before .before .before .before .before .before .before .before .before .before .before .before .args .visited) (c .before .before .before .before .before .before .before .before .before .before .before .before .args .u) (c .before .before .before .before .before .before .before .before .before .before .before .before .args .target) (placeAt (c .before .before .before .before .before .before .before .before .before .before .before .before .args .w) (c .before .before .before .before .before .before .before .before .before .before .before .before .args .fixed) (c .before .before .before .before .before .before .before .before .before .before .before .before .args .at)) (placesFrom (c .before .before .before .before .before .before .before .before .before .before .before .before .args .w) (c .before .before .before .before .before .before .before .before .before .before .before .before .args .fixed) (c .before .before .before .before .before .before .before .before .before .before .before .before .args .at + 1)) (c .before .before .before .before .before .before .before .before .before .before .loop .v) ≡ none
-failed t c =
-    let x = c .before .before .before .before .before .before .before .before .before .before .before .before in
-    let a = x .args in
-    let p = x .pre .1 .1 in
-    let l = c .before .before .before .before .before .before .before .before .before .before .loop in
-    let n : length (a .w .symbols) ≡ 31 = search needs in
-    let s : Place = placeAt (a .w) (a .fixed) (a .at) in
-    let xs : List Place = placesFrom (a .w) (a .fixed) (a .at + 1) in
-    let m = with-code 32 (a .visited) (l .v) (omega (arith, p .parties, c .before .before .before .before .before .before .before .before .before .loop-test .taken)) in
-    let h : FoundAs (a .at + 1) (withBit (a .visited) (l .v)) (searchFrom (a .n) (a .t1) (withBit (a .visited) (l .v)) (l .v) (a .target) xs) (c .before .if5 .f) =
-    ⊎-elim
-    (λ w. beyond-search (a .n) (a .t1) (a .w) (a .fixed) (a .at) (a .visited) (a .target) (l .v) _ m _ _ (w .2) (w .1 .ensures))
-    (λ w. beyond-last (a .n) (a .t1) (a .w) (a .fixed) (a .at) (a .visited) (a .target) (l .v) _ m _ _ (w .4) (omega (arith, w .0 .left, x .pre .1 .0)) (omega (arith, p .short .len)) (p .end) (w .3 .ensures))
-    (c .before .if5 .came) in
-    through-on (a .n) (a .t1) (a .visited) (a .u) (a .target) s xs (l .v) (test-no (a .visited) (l .v) (c .before .before .before .before .before .before .before .if2 .taken)) (sym (c .before .before .before .before .allows .ensures) ∙ c .before .before .before .if4 .taken)
-    ∙ ap (onto (l .v)) (found-not (a .at + 1) (withBit (a .visited) (l .v)) (searchFrom (a .n) (a .t1) (withBit (a .visited) (l .v)) (l .v) (a .target) xs) (c .before .if5 .f) h (c .if6 .left))
+  candidate-search-add-if7 : Candidate candidate-search-lts.Need-add-if7
+  candidate-search-add-if7 c = search needs
 
-candidate-search-loop-again : (t : ℕ) → candidate-search-lts.Need-loop-again (
-  allows-reads.Asked,
-  allows-reads.Learnt,
-  none-reads.Asked,
-  none-reads.Learnt,
-  party-search-below t,
-  party-search.Post,
-  last-step-reads.Asked,
-  last-step-reads.Learnt,
-  wrapping-add-u32-reads.Asked,
-  wrapping-add-u32-reads.Learnt,
-  walkable-reads.Asked,
-  walkable-reads.Learnt,
-) (candidate-search-at t) candidate-search.Post candidate-search-Inv-loop candidate-search-μ-loop
-candidate-search-loop-again t c =
-    let x = c .before .before .before .before in
-    let a = x .args in
-    let p = x .pre .1 .1 in
-    let l = c .before .before .loop in
-    let n : length (a .w .symbols) ≡ 31 = search needs in
-    let s : Place = placeAt (a .w) (a .fixed) (a .at) in
-    let xs : List Place = placesFrom (a .w) (a .fixed) (a .at + 1) in
-    let old = l .inv .1 .0 in
-    let z : (through (a .n) (a .t1) (a .visited) (a .u) (a .target) s xs (l .v) ≡ none) × Covers (a .n) (a .t1) (a .target) xs (a .visited) (c .if1 .onward) (a .n) =
-    ⊎-elim (λ y. (failed t (record { before = record { before = record { before = record { before = record { before = record { before = record { before = record { before = record { before = c .before; if1 = y .0 }; if2 = y .1 }; if3 = y .2 }; allows-arg = y .3 }; allows = y .4 }; if4 = y .5 }; none = y .6 }; if5 = y .7 }; if6 = y .8 }), rw (y .14) (y .13 .ensures)))
-    (⊎-elim (λ y. (failed t (record { before = record { before = record { before = record { before = record { before = record { before = record { before = record { before = record { before = c .before; if1 = y .0 }; if2 = y .1 }; if3 = y .2 }; allows-arg = y .3 }; allows = y .4 }; if4 = y .5 }; none = y .6 }; if5 = y .7 }; if6 = y .8 }), rw (y .13) old))
-    (⊎-elim (λ y. (failed t (record { before = record { before = record { before = record { before = record { before = record { before = record { before = record { before = record { before = c .before; if1 = y .0 }; if2 = y .1 }; if3 = y .2 }; allows-arg = y .3 }; allows = y .4 }; if4 = y .5 }; none = y .6 }; if5 = y .7 }; if6 = y .8 }), rw (y .12) old))
-    (⊎-elim (λ y. (failed t (record { before = record { before = record { before = record { before = record { before = record { before = record { before = record { before = record { before = c .before; if1 = y .0 }; if2 = y .1 }; if3 = y .2 }; allows-arg = y .3 }; allows = y .4 }; if4 = y .5 }; none = y .6 }; if5 = y .7 }; if6 = y .8 }), rw (y .10) old))
-    (⊎-elim (λ y. (through-not (a .n) (a .t1) (a .visited) (a .u) (a .target) s xs (l .v) (sym (y .4 .ensures) ∙ y .5 .left), rw (y .6) old))
-    (⊎-elim (λ y. (through-lost (a .n) (a .t1) (a .visited) (a .u) (a .target) s xs (l .v) (old (l .v) (c .before .loop-test .taken) (test-off (l .onward) (l .v) (y .2 .left)) (a .visited) (λ d e. e) (test-no (a .visited) (l .v) (y .1 .taken))), rw (y .3) old))
-    (⊎-elim (λ y. (through-visited (a .n) (a .t1) (a .visited) (a .u) (a .target) s xs (l .v) (test-on (a .visited) (l .v) (y .1 .left)), rw (y .2) old))
-    (λ y. (rw (y .0 .left) (through-target (a .n) (a .t1) (a .visited) (a .u) (a .target) s _ xs _ (places-cons (a .w) (a .fixed) (a .at + 1) (x .pre .1 .0) (omega (arith, p .short .len))) (p .end)), rw (y .1) old))))))))
-    (c .if1 .came) in
-    (omega (arith, c .before .loop-test .taken), (z .1, l .inv .1 .1 ∙ onwards-skip (a .n) (a .t1) (a .visited) (a .u) (a .target) s xs (l .v) (c .before .loop-test .taken) (z .0)))
+  candidate-search-wrapping-add-u32-requires : Candidate candidate-search-lts.Need-wrapping-add-u32-requires
+  candidate-search-wrapping-add-u32-requires c κs = search needs
 
-candidate-search-none-requires-2 : (t : ℕ) → candidate-search-lts.Need-none-requires-2 (
-  allows-reads.Asked,
-  allows-reads.Learnt,
-  none-reads.Asked,
-  none-reads.Learnt,
-  party-search-below t,
-  party-search.Post,
-  last-step-reads.Asked,
-  last-step-reads.Learnt,
-  wrapping-add-u32-reads.Asked,
-  wrapping-add-u32-reads.Learnt,
-  walkable-reads.Asked,
-  walkable-reads.Learnt,
-) (candidate-search-at t) candidate-search.Post candidate-search-Inv-loop candidate-search-μ-loop
-candidate-search-none-requires-2 t c κs = search needs
+  candidate-search-sub-if9 : Candidate candidate-search-lts.Need-sub-if9
+  candidate-search-sub-if9 c = search needs
 
-candidate-search-returns-2 : (t : ℕ) → candidate-search-lts.Need-returns-2 (
-  allows-reads.Asked,
-  allows-reads.Learnt,
-  none-reads.Asked,
-  none-reads.Learnt,
-  party-search-below t,
-  party-search.Post,
-  last-step-reads.Asked,
-  last-step-reads.Learnt,
-  wrapping-add-u32-reads.Asked,
-  wrapping-add-u32-reads.Learnt,
-  walkable-reads.Asked,
-  walkable-reads.Learnt,
-) (candidate-search-at t) candidate-search.Post candidate-search-Inv-loop candidate-search-μ-loop
-candidate-search-returns-2 t c =
-    let a = c .before .before .before .before .args in
-    let l = c .before .before .loop in
-    found-none (a .at) (a .visited) _ _ (l .inv .1 .1 ∙ onwards-end (a .n) (a .t1) (a .visited) (a .u) (a .target) (placeAt (a .w) (a .fixed) (a .at)) (placesFrom (a .w) (a .fixed) (a .at + 1)) (l .v) (c .before .loop-test .left)) (c .none2 .ensures)
+  candidate-search-mul-if9 : Candidate candidate-search-lts.Need-mul-if9
+  candidate-search-mul-if9 c = search needs
 
-party-search-add-if1 : (t : ℕ) → party-search-lts.Need-add-if1 (
-  candidate-search-below t,
-  candidate-search.Post,
-  last-step-reads.Asked,
-  last-step-reads.Learnt,
-) (party-search-at t) party-search.Post
-party-search-add-if1 t c = search needs
+  candidate-search-cast-if9 : Candidate candidate-search-lts.Need-cast-if9
+  candidate-search-cast-if9 c = search needs
 
-party-search-candidate-search-requires : (t : ℕ) → party-search-lts.Need-candidate-search-requires (
-  candidate-search-below t,
-  candidate-search.Post,
-  last-step-reads.Asked,
-  last-step-reads.Learnt,
-) (party-search-at t) party-search.Post
-party-search-candidate-search-requires t c κs =
-    let p = c .before .pre .1 in
-    (omega (arith, c .before .pre .0), (c .if1 .taken, p))
+  candidate-search-add-walkable : Candidate candidate-search-lts.Need-add-walkable
+  candidate-search-add-walkable c = search needs
 
-party-search-returns : (t : ℕ) → party-search-lts.Need-returns (
-  candidate-search-below t,
-  candidate-search.Post,
-  last-step-reads.Asked,
-  last-step-reads.Learnt,
-) (party-search-at t) party-search.Post
-party-search-returns t c =
-    c .candidate-search .ensures
+  candidate-search-walkable-requires : Candidate candidate-search-lts.Need-walkable-requires
+  candidate-search-walkable-requires c κs =
+      let x = started (c .before .before .before .before .before .before) in
+      let p = x .pre .1 .1 in
+      record { short = p .short; place = omega (arith, x .pre .1 .0); parties = p .parties; end = p .end }
 
-party-search-mul-row : (t : ℕ) → party-search-lts.Need-mul-row (
-  candidate-search-below t,
-  candidate-search.Post,
-  last-step-reads.Asked,
-  last-step-reads.Learnt,
-) (party-search-at t) party-search.Post
-party-search-mul-row t c = search needs
+  candidate-search-add-v : Candidate candidate-search-lts.Need-add-v
+  candidate-search-add-v c = search needs
 
-party-search-element-copy-out-row : (t : ℕ) → party-search-lts.Need-element-copy-out-row (
-  candidate-search-below t,
-  candidate-search.Post,
-  last-step-reads.Asked,
-  last-step-reads.Learnt,
-) (party-search-at t) party-search.Post
-party-search-element-copy-out-row t c = search needs
+  candidate-search-loop-less : Candidate candidate-search-lts.Need-loop-less
+  candidate-search-loop-less c = search needs
 
-party-search-mul-last-step : (t : ℕ) → party-search-lts.Need-mul-last-step (
-  candidate-search-below t,
-  candidate-search.Post,
-  last-step-reads.Asked,
-  last-step-reads.Learnt,
-) (party-search-at t) party-search.Post
-party-search-mul-last-step t c = search needs
+  abbrev leadsAt : Candidate candidate-search-lts.At-loop → Option (List ℕ)
+  leadsAt l =
+      let a = l .before .before .args in
+      leads (a .w) (a .fixed) (a .at) (a .n) (a .u) (a .target) (a .visited) (a .t1) (l .loop .v)
 
-party-search-element-copy-out-last-step :
-    (t : ℕ) → party-search-lts.Need-element-copy-out-last-step (
-      candidate-search-below t,
-      candidate-search.Post,
-      last-step-reads.Asked,
-      last-step-reads.Learnt,
-    ) (party-search-at t) party-search.Post
-party-search-element-copy-out-last-step t c = search needs
+  abbrev CoversAt : Candidate candidate-search-lts.At-loop → ℕ → Type 0
+  CoversAt l onward =
+      let a = l .before .before .args in
+      Covers (a .n) (a .t1) (a .target) (placesFrom (a .w) (a .fixed) (a .at + 1)) (a .visited) onward (a .n)
 
-party-search-cast-last-step : (t : ℕ) → party-search-lts.Need-cast-last-step (
-  candidate-search-below t,
-  candidate-search.Post,
-  last-step-reads.Asked,
-  last-step-reads.Learnt,
-) (party-search-at t) party-search.Post
-party-search-cast-last-step t c = search needs
+  -- a candidate that was tried and failed
+  failed : {c : Candidate candidate-search-lts.Joined5} → candidate-search-lts.Else6·own
+      candidate-claims (candidate-search-at t) candidate-search.Post candidate-search-Inv-loop candidate-search-μ-loop c
+      → leadsAt (looped (c .before)) ≡ none
+  failed {c} e = tried-failed (tried c) (e .left)
 
-party-search-last-step-requires : (t : ℕ) → party-search-lts.Need-last-step-requires (
-  candidate-search-below t,
-  candidate-search.Post,
-  last-step-reads.Asked,
-  last-step-reads.Learnt,
-) (party-search-at t) party-search.Post
-party-search-last-step-requires t c κs =
-    let p = c .before .before .before .pre .1 in
-    (p .short, (p .place, omega (arith, p .parties, p .end)))
+  candidate-search-loop-again : Candidate candidate-search-lts.Need-loop-again
+  candidate-search-loop-again c =
+      let x = c .before .before .before .before in
+      let a = x .args in
+      let l = c .before .before .loop in
+      let party = c .before .loop-test .taken in
+      let old = l .inv .covers in
+      let off = test-no (a .visited) (l .v) in
+      let z : (leadsAt (c .before .before) ≡ none) × CoversAt (c .before .before) (c .if1 .onward) =
+      ⊎-elim (λ y. (failed (y .8), rw (y .14) (y .13 .ensures)))
+      (⊎-elim (λ y. (failed (y .8), rw (y .13) old))
+      (⊎-elim (λ y. (failed (y .8), rw (y .12) old))
+      (⊎-elim (λ y. (failed (y .8), rw (y .10) old))
+      (⊎-elim (λ y. (turn-barred (l .inv) (sym (y .4 .ensures) ∙ y .5 .left), rw (y .6) old))
+      (⊎-elim (λ y. (turn-lost (l .inv) party (test-off (l .onward) (l .v) (y .2 .left)) (off (y .1 .taken)), rw (y .3) old))
+      (⊎-elim (λ y. (turn-visited (l .inv) (test-on (a .visited) (l .v) (y .1 .left)), rw (y .2) old))
+      (λ y. (rw (y .0 .left) (target-nowhere (x .pre .1 .1) (x .pre .1 .0) (a .fixed) (a .visited) (a .t1)), rw (y .1) old))))))))
+      (c .if1 .came) in
+      turn-skip (l .inv) party (z .1) (z .0)
 
-party-search-returns-2 : (t : ℕ) → party-search-lts.Need-returns-2 (
-  candidate-search-below t,
-  candidate-search.Post,
-  last-step-reads.Asked,
-  last-step-reads.Learnt,
-) (party-search-at t) party-search.Post
-party-search-returns-2 t c =
-    let x = c .before .before .before .before in
-    let a = x .args in
-    let p = x .pre .1 in
-    let n : length (a .w .symbols) ≡ 31 = search needs in
-    let q : placesFrom (a .w) (a .fixed) (a .at) ≡ placeAt (a .w) (a .fixed) (a .at) ∷ [] =
-    places-cons (a .w) (a .fixed) (a .at) (p .place) (omega (arith, p .short .len))
-    ∙ ap (λ (xs : List Place). placeAt (a .w) (a .fixed) (a .at) ∷ xs) (places-end (a .w) (a .fixed) (a .at + 1) (omega (arith, c .before .before .before .if1 .left)) (omega (arith, p .short .len))) in
-    rw (q, search-last (a .n) (a .t1) (a .visited) (a .u) (a .target) (p .end) (placeAt (a .w) (a .fixed) (a .at))) (c .last-step .ensures)
+  candidate-search-none-requires-2 : Candidate candidate-search-lts.Need-none-requires-2
+  candidate-search-none-requires-2 c κs = search needs
+
+  candidate-search-returns-2 : Candidate candidate-search-lts.Need-returns-2
+  candidate-search-returns-2 c =
+      let a = c .before .before .before .before .args in
+      found-none (a .at) (a .visited) _ _ (turn-end (c .before .before .loop .inv) (c .before .loop-test .left)) (c .none2 .ensures)
+
+  party-search-add-if1 : Party party-search-lts.Need-add-if1
+  party-search-add-if1 c = search needs
+
+  party-search-candidate-search-requires : Party party-search-lts.Need-candidate-search-requires
+  party-search-candidate-search-requires c κs =
+      let x = c .before in
+      (omega (arith, x .pre .0), (c .if1 .taken, x .pre .1))
+
+  party-search-returns : Party party-search-lts.Need-returns
+  party-search-returns c = c .candidate-search .ensures
+
+  party-search-mul-row : Party party-search-lts.Need-mul-row
+  party-search-mul-row c = search needs
+
+  party-search-element-copy-out-row : Party party-search-lts.Need-element-copy-out-row
+  party-search-element-copy-out-row c = search needs
+
+  party-search-mul-last-step : Party party-search-lts.Need-mul-last-step
+  party-search-mul-last-step c = search needs
+
+  party-search-element-copy-out-last-step : Party party-search-lts.Need-element-copy-out-last-step
+  party-search-element-copy-out-last-step c = search needs
+
+  party-search-cast-last-step : Party party-search-lts.Need-cast-last-step
+  party-search-cast-last-step c = search needs
+
+  party-search-last-step-requires : Party party-search-lts.Need-last-step-requires
+  party-search-last-step-requires c κs = search needs
+
+  party-search-returns-2 : Party party-search-lts.Need-returns-2
+  party-search-returns-2 c =
+      let x = c .before .before .before .before in
+      let a = x .args in
+      let p = x .pre .1 in
+      let s = placeAt (a .w) (a .fixed) (a .at) in
+      let q = places-last (p .short) (a .fixed) (a .at) (omega (arith, p .place, c .before .before .before .if1 .left)) in
+      rw (q, search-last (a .n) (a .t1) (a .visited) (a .u) (a .target) (p .end) s) (c .last-step .ensures)
 
 pub +candidate-search+party-search-spec : {M : Type 1} → statement M
 +candidate-search+party-search-spec =
-    close μ-candidate-search μ-party-search (λ t. candidate-search-lts.spec (
-      allows-reads.Asked,
-      allows-reads.Learnt,
-      none-reads.Asked,
-      none-reads.Learnt,
-      party-search-below t,
-      party-search.Post,
-      last-step-reads.Asked,
-      last-step-reads.Learnt,
-      wrapping-add-u32-reads.Asked,
-      wrapping-add-u32-reads.Learnt,
-      walkable-reads.Asked,
-      walkable-reads.Learnt,
-    )
+    close μ-candidate-search μ-party-search
+    (λ t. candidate-search-lts.spec
+    (candidate-claims t)
     (candidate-search-at t)
     candidate-search.Post
     candidate-search-Inv-loop
@@ -929,12 +373,8 @@ pub +candidate-search+party-search-spec : {M : Type 1} → statement M
     (candidate-search-loop-again t)
     (candidate-search-none-requires-2 t)
     (candidate-search-returns-2 t))
-    λ t. party-search-lts.spec (
-      candidate-search-below t,
-      candidate-search.Post,
-      last-step-reads.Asked,
-      last-step-reads.Learnt,
-    )
+    λ t. party-search-lts.spec
+    (party-claims t)
     (party-search-at t)
     party-search.Post
     (party-search-add-if1 t)

@@ -1,18 +1,17 @@
--- Each party passed so far is in the mask, is visited or the target, or has no path onward (WalkLaws).
+-- A party is added where it has a step to one of the mask; any other is visited, the target, or has no path onward (WalkLaws).
+-- Invariant: a party before v that `parties` lacks has no path along the places from `at` on. Measure: the parties left.
 use borrow.Author.Needs.{needs}
 use mathlib.Core.Path.{_≡_, _∙_}
 use mathlib.Core.Logic.{⊎-elim}
 use mathlib.Core.List.{List, _∷_}
 use Prim.Native.Nat.{_+_, _-_, _≤_}
 use native.Mathlib.Omega.{arith}
-use lib.ListN.{length}
-use Rattle.rebac.specs.Forms.{Place}
+use Rattle.rebac.specs.promises.Forms.{Place}
 use Rattle.lists.proofs.Cases.{both}
-use Rattle.masks.specs.Mask.{withBit}
 use Rattle.masks.proofs.BitLaws.{test-on}
-use Rattle.search.specs.Search.{placeAt, placesFrom}
-use Rattle.search.specs.Walk.{Covers}
-use Rattle.search.proofs.SearchLaws.{places-cons}
+use Rattle.search.specs.promises.Search.{placeAt, placesFrom}
+use Rattle.search.specs.promises.Walk.{Covers}
+use Rattle.search.proofs.SearchLaws.{places-cons, short-fits}
 use Rattle.search.proofs.WalkLaws.{within-with, no-step, covers-with, covers-without, target-lost}
 use Rattle.search.proofs.walk.parties_before.Statement.{statement}
 use Rattle.search.proofs.walk.parties_before.Tie as tie
@@ -55,21 +54,22 @@ loop-again : tie.Need-loop-again Inv-loop μ-loop
 loop-again c =
     let x = c .before .before .before in
     let a = x .args in
+    let p = x .pre in
     let l = c .before .before .loop in
-    let n : length (a .w .symbols) ≡ 31 = search needs in
-    let q : placesFrom (a .w) (a .fixed) (a .at) ≡ placeAt (a .w) (a .fixed) (a .at) ∷ placesFrom (a .w) (a .fixed) (a .at + 1) =
-    places-cons (a .w) (a .fixed) (a .at) (x .pre .1 .0) (omega (arith, x .pre .0 .len)) in
     let s : Place = placeAt (a .w) (a .fixed) (a .at) in
     let ys : List Place = placesFrom (a .w) (a .fixed) (a .at + 1) in
     let xs : List Place = placesFrom (a .w) (a .fixed) (a .at) in
-    let without = covers-without (a .n) (a .t1) (a .target) xs (a .visited) (l .parties) (l .v) (l .inv .1) in (
+    let q : xs ≡ s ∷ ys = places-cons (a .w) (a .fixed) (a .at) (p .place) (short-fits (p .short)) in
+    let with = covers-with (a .n) (a .t1) (a .target) xs (a .visited) (l .parties) (l .v) (l .inv .1) in
+    let without = covers-without (a .n) (a .t1) (a .target) xs (a .visited) (l .parties) (l .v) (l .inv .1) in
+    let lost = no-step (a .n) (a .t1) (a .target) ys (a .visited) (a .mask) (l .v) s (p .covers) in (
       omega (arith, c .before .loop-test .taken),
-      ⊎-elim (λ y. rw (y .6 ∙ y .5 .ensures) (covers-with (a .n) (a .t1) (a .target) xs (a .visited) (l .parties) (l .v) (l .inv .1)))
+      ⊎-elim (λ y. rw (y .6 ∙ y .5 .ensures) with)
           (⊎-elim
-          (λ y. rw (y .5) (without (λ more p o. rw q (no-step (a .n) (a .t1) (a .target) ys (a .visited) (a .mask) (l .v) s (x .pre .1 .1 .1 .1) (y .3 .ensures (y .4 .left)) (withBit more (l .v)) (within-with (a .visited) more (l .v) p)))))
+          (λ y. rw (y .5) (without (λ more m o. rw q (lost (y .3 .ensures (y .4 .left)) _ (within-with (a .visited) more (l .v) m)))))
           (⊎-elim
-          (λ y. rw (y .2) (without (λ more p o. both (p (l .v) (test-on (a .visited) (l .v) (y .1 .left))) o)))
-          (λ y. rw (y .1) (without (λ more p o. rw (y .0 .left, q) (target-lost (a .n) (a .t1) (a .target) s ys (x .pre .1 .1 .1 .0) more))))))
+          (λ y. rw (y .2) (without (λ more m o. both (m (l .v) (test-on (a .visited) (l .v) (y .1 .left))) o)))
+          (λ y. rw (y .1) (without (λ more m o. rw (y .0 .left, q) (target-lost (a .n) (a .t1) (a .target) s ys (p .end) more))))))
           (c .if1 .came),
     )
 

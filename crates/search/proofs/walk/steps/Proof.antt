@@ -1,4 +1,5 @@
--- No candidate passed so far is in the mask and may follow at the place: those that a turn skips are not in the mask.
+-- Those that a turn skips are not in the mask (WalkLaws), and the one it comes to is tried.
+-- Invariant: no candidate before c is in the mask and may follow at the place. Measure: the candidates left.
 use borrow.Author.Needs.{needs}
 use mathlib.Core.Path.{_≡_, refl, sym, _∙_}
 use mathlib.Core.Logic.{⊎-elim, by-cases}
@@ -7,8 +8,8 @@ use native.Mathlib.Decide.{decLt}
 use native.Mathlib.Omega.{arith}
 use lib.Count.{trailingZeros, trailing-le}
 use Rattle.lists.proofs.Cases.{both}
-use Rattle.search.specs.Search.{placeAt}
-use Rattle.search.specs.Walk.{NoStep}
+use Rattle.search.specs.promises.Search.{placeAt}
+use Rattle.search.specs.promises.Walk.{NoStep}
 use Rattle.search.proofs.WalkLaws.{skipped-off}
 use Rattle.search.proofs.walk.steps.Statement.{statement}
 use Rattle.search.proofs.walk.steps.Tie as tie

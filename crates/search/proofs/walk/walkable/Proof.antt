@@ -1,13 +1,12 @@
--- Backwards from the word's end, where only the target has a path: outside the mask no path leads on along the places passed.
+-- Backwards from the word's end, where only the target has a path (WalkLaws).
+-- Invariant: a party outside the mask has no path along the places from `at` on. Measure: the places left before `at`, down to `from`.
 use borrow.Author.Needs.{needs}
 use mathlib.Core.Path.{_≡_}
-use mathlib.Core.List.{[]}
 use Prim.Native.Nat.{_+_, _-_, _≤_}
 use native.Mathlib.Omega.{arith}
-use lib.ListN.{length}
-use Rattle.search.specs.Search.{placesFrom}
-use Rattle.search.specs.Walk.{Covers}
-use Rattle.search.proofs.SearchLaws.{places-end}
+use Rattle.search.specs.promises.Search.{placesFrom}
+use Rattle.search.specs.promises.Walk.{Covers}
+use Rattle.search.proofs.SearchLaws.{places-end, short-fits}
 use Rattle.search.proofs.WalkLaws.{covers-end}
 use Rattle.search.proofs.walk.walkable.Statement.{statement}
 use Rattle.search.proofs.walk.walkable.Tie as tie
@@ -29,20 +28,24 @@ loop-holds : tie.Need-loop-holds Inv-loop μ-loop
 loop-holds c =
     let x = c .before in
     let a = x .args in
-    let n : length (a .w .symbols) ≡ 31 = search needs in
-    let q : placesFrom (a .w) (a .fixed) (a .w .len) ≡ [] = places-end (a .w) (a .fixed) (a .w .len) (omega arith) (omega (arith, x .pre .0 .len)) in
-    (search needs, (x .pre .1 .1 .1, rw (c .with .ensures, q) (covers-end (a .n) (a .g) (a .target) (a .visited))))
+    let q = places-end (a .w) (a .fixed) (a .w .len) (omega arith) (short-fits (x .pre .short)) in
+    (search needs, (x .pre .place, rw (c .with .ensures, q) (covers-end (a .n) (a .g) (a .target) (a .visited))))
 
 sub-at : tie.Need-sub-at Inv-loop μ-loop
 sub-at c = search needs
 
 parties-before-requires : tie.Need-parties-before-requires Inv-loop μ-loop
 parties-before-requires c κs =
-    let x = c .before .before .before in
-    let a = x .args in
+    let p = c .before .before .before .pre in
     let l = c .before .loop in
     let d : l .at - 1 + 1 ≡ l .at = omega (arith, c .loop-test .taken) in
-    (x .pre .0, (omega (arith, l .inv .0, c .loop-test .taken), (x .pre .1 .0, (x .pre .1 .1 .0, rw d (l .inv .1 .1)))))
+    record {
+      short = p .short;
+      place = omega (arith, l .inv .0, c .loop-test .taken);
+      parties = p .parties;
+      end = p .end;
+      covers = rw d (l .inv .1 .1);
+    }
 
 loop-less : tie.Need-loop-less Inv-loop μ-loop
 loop-less c = search needs

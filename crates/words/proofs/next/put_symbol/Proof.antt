@@ -1,9 +1,9 @@
 -- One symbol is stored; the others stay.
-use mathlib.Core.Path.{_≡_, refl, _∙_}
+use mathlib.Core.Path.{refl, _∙_}
 use mathlib.Core.Logic.{by-cases}
 use native.Mathlib.Decide.{ℕ-discrete}
 use native.Mathlib.Omega.{arith}
-use lib.ListN.{length, length-set}
+use lib.ListN.{length-set}
 use lib.Seq.{getD-set-same, getD-set-other}
 use borrow.Author.Needs.{needs}
 use Rattle.words.proofs.next.put_symbol.Statement.{statement}
@@ -15,16 +15,18 @@ element-write-w c = search needs
 returns : tie.Need-returns
 returns c =
     let a = c .args in
-    let n : length (a .t1 .symbols) ≡ 31 = c .pre .1 .1 .full in (
-      record {
-        len = c .pre .1 .1 .len;
-        full = length-set (a .t1 .symbols) (a .at) (a .s) ∙ n;
+    let p = c .pre in
+    record {
+      short = record {
+        len = p .short .len;
+        full = length-set (a .t1 .symbols) (a .at) (a .s) ∙ p .short .full;
         symbols = λ i h. by-cases (ℕ-discrete i (a .at))
-            (λ q. rw (q, getD-set-same (a .t1 .symbols) (a .at) (a .s) 0 (omega arith)) (c .pre .1 .0))
-            (λ q. rw (getD-set-other (a .t1 .symbols) (a .at) i (a .s) 0 q) (c .pre .1 .1 .symbols i h));
-      },
-      (refl, refl),
-    )
+            (λ q. rw (q, getD-set-same (a .t1 .symbols) (a .at) (a .s) 0 (omega (arith, p .place, p .short .full))) (p .symbol))
+            (λ q. rw (getD-set-other (a .t1 .symbols) (a .at) i (a .s) 0 q) (p .short .symbols i h));
+      };
+      len = refl;
+      symbols = refl;
+    }
 
 pub put-symbol-spec : {M : Type 1} → statement M
 put-symbol-spec = tie.close (tie.spec element-write-w returns)

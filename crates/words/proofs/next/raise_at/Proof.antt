@@ -1,6 +1,6 @@
--- A symbol of 31 has none above it.
+-- One more is put at the place, and the search goes on from it; a symbol of 31 has none above it.
 use mathlib.Core.Path.{_≡_}
-use Prim.Native.Nat.{suc, _+_}
+use Prim.Native.Nat.{suc, _+_, _≤_}
 use native.Mathlib.Omega.{arith}
 use native.Mathlib.Numerals.{add-one}
 use lib.ListN.{getD}
@@ -25,13 +25,12 @@ returns : tie.Need-returns
 returns c =
     let x = c .before .before .before .before in
     let a = x .args in
-    let e = c .before .put-symbol .ensures in (
+    let s = getD (a .t5 .symbols) (a .at) 0 in
+    let put = c .before .put-symbol .ensures in (
       c .complete-from .ensures .0,
-      λ al fixed s k A p l.
-          let q = place-at (a .t5) fixed s k (a .at) p l (x .pre .1) in
-          let z : getD (a .t5 .symbols) (a .at) 0 + 1 ≡ suc s = rw (q, add-one) in
-          rw (← z) (c .complete-from .ensures .1 al fixed (getD (a .t5 .symbols) (a .at) 0 + 1) k A
-          (put-places (a .t5) (c .before .put-symbol .result) fixed s (getD (a .t5 .symbols) (a .at) 0 + 1) k (a .at) p l (x .pre .1) (e .1 .0) (e .1 .1)) l),
+      λ al fixed floor k A p l.
+          let z : s + 1 ≡ suc floor = rw (place-at (a .t5) fixed floor k p l (x .pre .1), add-one) in
+          rw (← z) (c .complete-from .ensures .1 al fixed (s + 1) k A (put-places put fixed floor k p l (x .pre .1)) l),
     )
 
 nothing-requires : tie.Need-nothing-requires
@@ -42,8 +41,9 @@ returns-2 c =
     let x = c .before .before .before in
     let a = x .args in (
       rw (c .nothing .ensures .1) (x .pre .0 .short),
-      λ al fixed s k A p l.
-          rw (complete-high al (a .n) (a .g) (a .first) (a .second) A fixed (suc s) k (omega (arith, place-at (a .t5) fixed s k (a .at) p l (x .pre .1), c .before .if1 .left))) (c .nothing .ensures .0),
+      λ al fixed floor k A p l.
+          let high : 32 ≤ suc floor = omega (arith, place-at (a .t5) fixed floor k p l (x .pre .1), c .before .if1 .left) in
+          rw (complete-high A (a .first) (a .second) fixed (suc floor) k high) (c .nothing .ensures .0),
     )
 
 pub raise-at-spec : {M : Type 1} → statement M

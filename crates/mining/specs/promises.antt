@@ -1,0 +1,4 @@
+-- What functions promise each other; no contract of a call rests on these definitions.
+pub mod Pairs
+pub mod Building
+pub mod Taking
