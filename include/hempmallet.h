@@ -5,7 +5,11 @@
  *
  * A pointer must be valid also where its length is 0, and the buffers of a call
  * must not overlap. No function keeps a pointer or holds state between calls.
- * A call needs up to 640 KB of stack: give a thread that calls 1 MiB.
+ * A call needs up to 600 KB of stack: give a thread that calls 1 MiB.
+ *
+ * Every call ends, but on some files and lists with words of some thirty
+ * symbols it can take longer than anybody waits. A host that must answer makes
+ * the call where it can be ended.
  */
 #ifndef HEMPMALLET_H
 #define HEMPMALLET_H

@@ -178,13 +178,13 @@ def ring_of_sets(rng, n):
         permits = permits | {rows[-1].reply[2]}
         rows.append(row_of_ring(rng, n, "ring of sets", steps, permits))
     if n == 32:
-        rows += [long_list(rng, n, length) for length in LEFT_OUT]
+        rows += [long_list(rng, n, length, left_out) for length, left_out in LEFT_OUT.items()]
     return rows[-4:]
 
 
-def long_list(rng, n, length):
-    """The ring of 32 parties whose list has this length."""
-    permits = {(a, (a + k) % n) for k, mask in enumerate(LONG_LIST_PERMITS, start=2) if k not in LEFT_OUT[length]
+def long_list(rng, n, length, left_out):
+    """The ring of 32 parties without these distances, whose list has this length."""
+    permits = {(a, (a + k) % n) for k, mask in enumerate(LONG_LIST_PERMITS, start=2) if k not in left_out
                for a in range(n) if mask >> a & 1}
     row = row_of_ring(rng, n, "ring with a list of %d bytes" % length, LONG_LIST_STEPS, permits)
     if row.reply != ("convertible", length):

@@ -1,20 +1,16 @@
 //! Algorithm 1 of source document 000, plainly: it lists all simple paths of a pair. The words of each
-//! pair are kept once listed, as the document suggests.
+//! pair are kept once listed, as the document suggests. answers.rs limits its time.
 
 use crate::house::House;
-use crate::timing;
 use crate::twin::{Word, MOST_PARTIES};
-use std::time::Duration;
 
-const MOST_TIME: Duration = Duration::from_secs(3);
 const MOST_WORDS: usize = 4_000_000;
 
-/// The listing took too long, or had too many words.
+/// The listing had too many words to keep them all.
 pub struct Stopped;
 
 struct Listing<'a> {
     house: &'a House,
-    start: Duration,
     listed: usize,
     words: Vec<Option<Vec<Word>>>,
 }
@@ -22,7 +18,7 @@ struct Listing<'a> {
 /// The permitted pairs that are infeasible: failedAuthList. The file is convertible where it is empty.
 pub fn failed(house: &House) -> Result<Vec<(usize, usize)>, Stopped> {
     let words = vec![None; MOST_PARTIES * MOST_PARTIES];
-    let mut listing = Listing { house, start: timing::used(), listed: 0, words };
+    let mut listing = Listing { house, listed: 0, words };
     let mut failed = Vec::new();
     for pair in house.pairs().filter(|&(a, b)| house.is_permitted(a, b)) {
         let labels = listing.path_labels(pair)?.to_vec();
@@ -65,7 +61,7 @@ impl Listing<'_> {
              words: &mut Vec<Word>) -> Result<(), Stopped> {
         if party == second {
             self.listed += 1;
-            if self.listed > MOST_WORDS || self.listed % 4096 == 0 && timing::used() - self.start > MOST_TIME {
+            if self.listed > MOST_WORDS {
                 return Err(Stopped);
             }
             words.push(word);

@@ -41,7 +41,10 @@ pub fn mining(file: &[u8], scratch: &mut [u8], output: &mut [u8]) -> u64 {
     if scratch.len() < SCRATCH {
         return 12;
     }
-    let Ok(mined) = rules::mine(&house) else { return 13 };
+    let mined = match rules::mine(&house) {
+        Ok(mined) => mined,
+        Err(_) => return 13,
+    };
     let listed = rules::encode(&mined.terms);
     scratch[..SCRATCH].fill(0);
     if output.len() < listed.len() {
@@ -62,6 +65,8 @@ pub fn permit(file: &[u8], listed: &[u8], first: usize, second: usize) -> u64 {
     if !house.is_pair(first, second) {
         return 10;
     }
-    let Some(terms) = rules::decode(&house, listed) else { return 9 };
-    FIRST_KIND + rules::permits(house.pair((first, second)), &terms) as u64
+    match rules::decode(&house, listed) {
+        Some(terms) => FIRST_KIND + rules::permits(house.pair((first, second)), &terms) as u64,
+        None => 9,
+    }
 }

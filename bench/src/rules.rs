@@ -33,9 +33,7 @@ pub fn mine(house: &House) -> Result<Mined, Obstacle> {
 /// The pair's first word, and for each unpermitted pair that meets the term so far the first that it lacks.
 fn term_for(house: &House, parties: (usize, usize)) -> Result<Term, Obstacle> {
     let pair = house.pair(parties);
-    let Some(first) = next_word(pair, house.longest, &Word::EMPTY) else {
-        return Err(Obstacle::NoWord(parties));
-    };
+    let first = next_word(pair, house.longest, &Word::EMPTY).ok_or(Obstacle::NoWord(parties))?;
     let mut term = vec![first];
     for other in house.pairs() {
         if !house.is_permitted(other.0, other.1) && meets(house.pair(other), &term) {
@@ -103,9 +101,9 @@ pub fn decode(house: &House, listed: &[u8]) -> Option<Vec<Term>> {
 }
 
 fn take_number(rest: &mut &[u8]) -> Option<usize> {
-    let (number, after) = rest.split_first_chunk::<2>()?;
-    *rest = after;
-    Some(u16::from_le_bytes(*number) as usize)
+    let number = u16::from_le_bytes(rest.get(..2)?.try_into().ok()?);
+    *rest = &rest[2..];
+    Some(number as usize)
 }
 
 fn take_word(house: &House, rest: &mut &[u8]) -> Option<Word> {

@@ -5,7 +5,8 @@ use mathlib.Core.List.{List, _++_}
 use mathlib.Core.Logic.{_⊎_, ⊎-elim}
 use Prim.Native.Nat.{ℕ, _/_, _%_, _≤_, _<_}
 use native.Mathlib.Omega.{arith}
-use lib.ListN.{length, drop}
+use lib.ListN.{length, take, drop, length-append}
+use lib.Seq.{take-at}
 use lib.Dec.{leb}
 use borrow.Author.Tests.{le-leb, lt-leb}
 use Rattle.masks.specs.promises.Table.{maskIn}
@@ -31,14 +32,14 @@ use Rattle.mining.specs.promises.Taking.{PairMarks}
 use Rattle.mining.specs.declared.build.Pair.{Pair as PairValue}
 use Rattle.mining.proofs.ArchiveLaws.{problem-shown}
 use Rattle.conversion.specs.Calls.{listOf, bytesOf, verdictReply, verdictIn, tableOf, refuses, miningIn, miningScratch, Mined}
-use Rattle.conversion.specs.promises.Passes.{archiveBytes, archiveVerdict, rowBytes, ListRoom}
+use Rattle.conversion.specs.promises.Passes.{archiveBytes, archiveVerdict, rowBytes, ListWritten}
 use Rattle.conversion.specs.declared.mine.MiningReply.the-variants as mined
 use Rattle.conversion.specs.declared.verdict.VerdictReply.the-variants.{Refused, Convertible, NoWord, Rival}
 use Rattle.conversion.proofs.TableLaws.{clear-bytes, marks-bytes}
 use Rattle.conversion.proofs.ReplyLaws.{reply-convertible, reply-no-word, reply-rival, reply-refused}
 
 module _ {M : Matter} {a : Archive} (h : Shows M a) where
-  bytes-shown : archiveBytes a ≡ bytesOf M
+  pub bytes-shown : archiveBytes a ≡ bytesOf M
   unfolding archiveBytes bytesOf listOf minedList
   bytes-shown = rw (problem-shown h) refl
 
@@ -97,25 +98,36 @@ module _ {M : Matter} {a : Archive} (h : Shows M a) where
             rw (enough-scratch, told .0, lt-leb (length (bytesOf M)) (length output) (rw (← told .1) at o))
             (refl, (q ∙ ap (λ (l : List ℕ). l ++ drop 1024 scratch) (clear-bytes r z), refl))
 
-        module _ (o : size ≤ length output) where
-          pub list-room : ListRoom a (length output)
-          unfolding verdictOf
-          list-room = record { shown = (M, h); verdict = rw (problem-shown h) (told .0); room = rw (bytes-shown, told .1) o }
+        -- the list, and the table of its marks
+        pub mined-writes : size ≤ length output → (r : Row) (scratchAfter outputAfter : List ℕ)
+            → ListWritten a output outputAfter r → scratchAfter ≡ rowBytes r ++ drop 1024 scratch
+            → Mined (miningIn M) (mined.Wrote size) scratch scratchAfter output outputAfter
+        unfolding miningIn
+        mined-writes o r new list w q =
+            rw (enough-scratch, told .0, le-leb (length (bytesOf M)) (length output) (rw (← told .1) at o)) (
+              ap mined.Wrote (sym (told .1)),
+              (
+                q ∙ ap (λ (l : List ℕ). l ++ drop 1024 scratch) (table-shown r (w .marks)),
+                w .bytes ∙ ap (λ (l : List ℕ). l ++ drop (length l) output) bytes-shown,
+              ),
+            )
 
-          -- the list, and the table of its marks
-          pub mined-writes : (r : Row) → PairMarks a (mine (problemIn a)) r
-              → (scratchAfter outputAfter : List ℕ) → scratchAfter ≡ rowBytes r ++ drop 1024 scratch
-              → outputAfter ≡ archiveBytes a ++ drop (length (archiveBytes a)) output
-              → Mined (miningIn M) (mined.Wrote size) scratch scratchAfter output outputAfter
-          unfolding miningIn
-          mined-writes r m new list q w =
-              rw (enough-scratch, told .0, le-leb (length (bytesOf M)) (length output) (rw (← told .1) at o)) (
-                ap mined.Wrote (sym (told .1)),
-                (
-                  q ∙ ap (λ (l : List ℕ). l ++ drop 1024 scratch) (table-shown r m),
-                  w ∙ ap (λ (l : List ℕ). l ++ drop (length l) output) bytes-shown,
-                ),
-              )
+-- the length of a convertible archive's list, and the list as it stands in a slice
+module _ (a : Archive) {size : ℕ} (e : Convertible size ≡ archiveVerdict a) where
+  pub list-size : length (archiveBytes a) ≡ size
+  unfolding archiveVerdict
+  list-size = reply-convertible (length (archiveBytes a)) size (verdict (problemIn a)) (sym e) .1
+
+  module _ {old new : List ℕ} {row : Row} (w : ListWritten a old new row) where
+    pub list-inside : size ≤ length new
+    list-inside =
+        let rest : List ℕ = drop (length (archiveBytes a)) old in
+        omega (arith, ap length (w .bytes), length-append (archiveBytes a) rest, list-size)
+
+    pub list-taken : take size new ≡ archiveBytes a
+    list-taken =
+        let rest : List ℕ = drop (length (archiveBytes a)) old in
+        ap (take size) (w .bytes) ∙ take-at (archiveBytes a) rest size list-size
 
 -- no verdict of an archive is a refusal
 pub never-refused : {G : Type 0} (a : Archive) {x : Refusal} → Refused x ≡ archiveVerdict a → G

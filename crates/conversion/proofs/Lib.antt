@@ -1,8 +1,7 @@
 pub mod TableLaws
 pub mod SizeLaws
 pub mod PassLaws
-pub mod WriteLaws
-pub mod VerdictPass
+pub mod JudgeLaws
 pub mod ReplyLaws
 pub mod AnswerLaws
 pub mod Demand3

@@ -3,7 +3,7 @@ use mathlib.Core.Path.{_≡_, refl, sym, ap, _∙_}
 use mathlib.Core.Bool.{true, false, not, _&&_}
 use mathlib.Core.List.{List, [], _∷_, _++_}
 use mathlib.Core.Option.{Option, none, some}
-use Prim.Native.Nat.{ℕ, _+_, _*_, _/_, _%_, _≤_, _<_}
+use Prim.Native.Nat.{ℕ, _+_, _*_, _≤_, _<_}
 use native.Mathlib.Omega.{arith}
 use lib.ListN.{length, length-append}
 use Rattle.lists.specs.Lists.{anyOf, firstBy, flatMap}
@@ -20,14 +20,11 @@ use Rattle.rebac.specs.Verdict.{Verdict, convertible, noWord, rivalled, wordsOf
 use Rattle.rebac.specs.Mining.{termOf, mineFrom, mine}
 use Rattle.rebac.specs.promises.WhileMining.{passing, verdictFrom}
 use Rattle.rebac.specs.Existence.{plainTerm, plainList}
-use Rattle.rebac.proofs.PairsLaws.{pairs-in}
 use Rattle.rebac.proofs.MiningLaws.{term-owned}
-use Rattle.rebac.proofs.VerdictLaws.{verdict-out}
 use Rattle.rebac.proofs.WhileMining.{judge-from, verdict-while-mining}
 use Rattle.graph.specs.declared.Archive.{Archive}
 use Rattle.graph.specs.promises.Archive.{Shows}
 use Rattle.graph.specs.Legal.{isPair}
-use Rattle.graph.proofs.LegalLaws.{pair-of}
 use Rattle.fields.specs.Numbers.{u16Bytes}
 use Rattle.rule_bytes.specs.ListBytes.{encodeTerm, encodeList}
 use Rattle.fields.proofs.NumberLaws.{u16-size}
@@ -176,14 +173,6 @@ module _ {a : Archive} {l : RuleList Word} {row : Row} {size k : ℕ} (P : Passi
         bounded = omega (arith, P .bounded);
       })
 
-  -- the list so far is part of the whole
-  pub pass-size : size ≤ length (archiveBytes a)
-  unfolding archiveBytes
-  pass-size =
-      let g = terms-grow (problemIn a) l (pairsFrom (a .parties) k) in
-      let s = ap (λ (r : RuleList Word). length (termsOf r)) (P .mined) in
-      omega (arith, P .sized, g, s, list-length (mine (problemIn a)))
-
   -- past the last pair
   pub pass-end : 32 * a .parties ≤ k → (l ≡ mine (problemIn a)) × (verdict (problemIn a) ≡ convertible)
   unfolding mineFrom verdictFrom
@@ -269,13 +258,6 @@ module _ (D : DueTurn) where
       let g = terms-grow S listWith later in
       let s = ap (λ (r : RuleList Word). length (termsOf r)) longer in
       omega (arith, D .pass .sized, terms-add-size (D .list) own-term, g, s, list-length (mine S))
-
-  -- where the whole is convertible the pair is
-  pub pass-convertible : verdict S ≡ convertible → judge S ownPair ≡ convertible
-  pass-convertible v =
-      let i = pair-of (D .a .parties) (D .k / 32) (D .k % 32) pair-legal in
-      verdict-out S v ownPair (rw (problem-pairs (D .a)) (pairs-in (D .a .parties) ownPair i))
-      (and-left (S .permitted ownPair) _ meets-test)
 
   -- it is in the way
   stops : (v : Verdict Pair) → (v ≡ convertible → ⊥) → judge S ownPair ≡ v → verdict S ≡ v

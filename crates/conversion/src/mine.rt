@@ -1,21 +1,17 @@
 // Mining: the list into the lent output, the pairs that it permits into scratch.
-ghost use mathlib.Core.Path.{_≡_};
-ghost use mathlib.Core.List.{_++_};
-ghost use lib.ListN.{length, drop};
+ghost use lib.ListN.{length};
 ghost use Rattle.rebac.specs.Matter.{Matter};
-ghost use Rattle.rebac.specs.Mining.{mine as minedTerms};
 ghost use Rattle.graph.specs.promises.Archive.{Shows};
-ghost use Rattle.mining.specs.promises.Building.{problemIn};
-ghost use Rattle.mining.specs.promises.Taking.{PairMarks};
 ghost use Rattle.conversion.specs.Calls.{miningIn, miningCall, Mined};
-ghost use Rattle.conversion.specs.promises.Passes.{archiveBytes, ListRoom};
+ghost use Rattle.conversion.specs.promises.Passes.{ListRoom, ListWritten};
 use crate::table::put_table;
+use crate::verdict::LONGEST_TERM;
 use crate::verdict::VerdictReply;
-use crate::verdict::verdict_in;
+use crate::verdict::judge_into;
+use fields::put_bytes;
 use graph::Archive;
 use house_layout::Check;
 use house_layout::Refusal;
-use limits::MOST_PARTIES;
 use limits::SCRATCH_SIZE;
 use masks::Row;
 
@@ -26,30 +22,20 @@ pub enum MiningReply {
     Wrote(usize),
 }
 
-// The list of a convertible archive, its terms one after another, and then their number; the pairs that it permits.
-fn write_list(a: Archive, out: &mut [u8]) -> Row
-    requires { ⌜ ListRoom a (length (now out)) ⌝ }
-    ensures { λ r. ⌜ (now (out .exit) ≡ archiveBytes a ++ drop (length (archiveBytes a)) (now (out .entry)))
-        × PairMarks a (minedTerms (problemIn a)) r ⌝ }
+// The longest list that is kept while the verdict is found. A longer one is built again.
+const KEPT_LIST: usize = 65536;
+
+// The list of a convertible archive, and the pairs that it permits. `list` and `kept` have them where the list is not too long to be kept.
+fn write_list(a: Archive, list: &[u8], kept: Row, size: usize, out: &mut [u8]) -> Row
+    requires { ⌜ ListRoom a (now list) kept size (length (now out)) ⌝ }
+    ensures { λ r. ⌜ ListWritten a (now (out .entry)) (now (out .exit)) r ⌝ }
 {
-    let mut marks = masks::empty_row();
-    let mut number: usize = 0;
-    let mut end: usize = 2;
-    let n = a.parties;
-    let permits = a.permits;
-    let count = MOST_PARTIES * n;
-    for k in 0..count {
-        if !mining::is_due(n, permits, marks, k) {
-            continue;
-        }
-        let t = mining::take_due(a, marks, k, out, end);
-        let outcome = t.outcome;
-        number += 1;
-        end = mining::end_of(outcome, end);
-        marks = t.marks;
+    if size <= KEPT_LIST {
+        put_bytes(out, 0, &list[..size]);
+        return kept;
     }
-    fields::put_u16(out, 0, number);
-    marks
+    let j = judge_into(a, out, size);
+    j.marks
 }
 
 // The answer for an accepted file: the verdict first, since a refusal leaves the output as it was.
@@ -61,14 +47,16 @@ fn mine_in(a: Archive, scratch: &mut [u8], out: &mut [u8]) -> MiningReply
     if scratch.len() < SCRATCH_SIZE {
         return MiningReply::Refused(Refusal::Scratch);
     }
-    let v = verdict_in(a);
+    let mut list = [0u8; KEPT_LIST + LONGEST_TERM];
+    let j = judge_into(a, &mut list, KEPT_LIST);
+    let v = j.reply;
     match v {
         VerdictReply::Convertible(size) => {
             if out.len() < size {
                 put_table(scratch, masks::empty_row());
                 return MiningReply::Refused(Refusal::Output);
             }
-            let marks = write_list(a, out);
+            let marks = write_list(a, &list, j.marks, size, out);
             put_table(scratch, marks);
             MiningReply::Wrote(size)
         }

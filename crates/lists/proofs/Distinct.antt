@@ -3,6 +3,7 @@
 use mathlib.Core.Path.{_≡_, refl, sym, ap}
 use mathlib.Core.List.{List, [], _∷_, _++_, map, List·Memᴰ, List·Memᴰ·head, List·Memᴰ·tail}
 use mathlib.Core.List.{List·Memᴰ·not-nil, Memᴰ·append-left, Memᴰ·append-right}
+use mathlib.Core.List.{nil≢cons, cons≢nil, head-eq-of-cons-eq, tail-eq-of-cons-eq}
 use Prim.Native.Nat.{ℕ, zero, suc, _≤_, _<_}
 use native.Mathlib.Omega.{arith}
 use lib.ListN.{length, getD, length-append}
@@ -80,6 +81,17 @@ module _ {A B : Type 0} where
     λ m. let r = map-out f l m in d .0 (rw (i x (r .0) (List·Memᴰ·head refl) (List·Memᴰ·tail (r .1)) (r .2)) (r .1)),
     distinct-map f l (d .1) (λ y z m n. i y z (List·Memᴰ·tail m) (List·Memᴰ·tail n)),
   )
+
+  -- lists with equal images are equal, where equal images come from equal elements
+  pub map-one-to-one : (f : A → B) (l m : List A)
+      → ((x y : A) → List·Memᴰ x l → List·Memᴰ y m → f x ≡ f y → x ≡ y) → map f l ≡ map f m → l ≡ m
+  map-one-to-one f [] [] i e = refl
+  map-one-to-one f [] (y ∷ m) i e = absurd (nil≢cons e)
+  map-one-to-one f (x ∷ l) [] i e = absurd (cons≢nil e)
+  map-one-to-one f (x ∷ l) (y ∷ m) i e =
+      let h : x ≡ y = i x y (List·Memᴰ·head refl) (List·Memᴰ·head refl) (head-eq-of-cons-eq e) in
+      let t : l ≡ m = map-one-to-one f l m (λ u v a b. i u v (List·Memᴰ·tail a) (List·Memᴰ·tail b)) (tail-eq-of-cons-eq e) in
+      cc
 
   -- pieces without repetition, no two of which share an element
   pub distinct-flat : (f : A → List B) (l : List A) → Distinct l → ((x : A) → List·Memᴰ x l → Distinct (f x))

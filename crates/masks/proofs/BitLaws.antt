@@ -1,6 +1,6 @@
 -- One binary digit of a number, at any width: by splitting the number at the digit. Assumes nothing.
 use mathlib.Core.Path.{_≡_, refl, sym, ap, _∙_, subst}
-use mathlib.Core.Bool.{true, false}
+use mathlib.Core.Bool.{true, false, _&&_, _||_}
 use mathlib.Core.Logic.{_⊎_, inl, inr, ⊎-elim, by-cases}
 use Prim.Native.Nat.{ℕ, zero, suc, _+_, _-_, _*_, _/_, _%_, _^_, _≤_, _<_}
 use native.Mathlib.Nat.{mod-lt, div-self, div-eq-of-lt, zero-div, pow-suc, mul-mod-left, one-mul}
@@ -8,10 +8,11 @@ use native.Mathlib.Omega.{arith}
 use native.Mathlib.Decide.{decLt}
 use lib.Dec.{eqb, lit<}
 use lib.Arith.{bin-ind}
-use lib.Pow.{pow-pos, pow-lt, pow-add, shl-shr, shr-shr, split, shl-exact}
-use lib.Bits.{bitAnd, bitOr, and-mask, or-shr, or-mod, or-lt, or-zero-r, or-block, or-step}
+use lib.Pow.{pow-pos, pow-lt, pow-add, shl-shr, shr-shr, split, shl-exact, ones-lt, ones-split, high}
+use lib.Bits.{bitAnd, bitOr, and-mask, and-shr, and-mod, or-shr, or-mod, or-lt, or-zero-r, or-block, or-step}
 use lib.Count.{ones, ones-cat, ones-step}
 use borrow.Author.Tests.{eqb-false, eq-eqb, ne-eqb}
+use Rattle.lists.proofs.Cases.{and-right, or-true}
 use Rattle.masks.specs.promises.Mask.{bitAt, testBit, withBit}
 
 -- a digit is 0 or 1
@@ -160,3 +161,58 @@ test-off n k z = ne-eqb (bitAt n k) 1 (λ f. z (and-bit n k ∙ f))
 pub test-on : (n k : ℕ) → (bitAnd (n / 2 ^ k) 1 ≡ 0 → ⊥) → testBit n k ≡ true
 unfolding testBit
 test-on n k z = eq-eqb (bitAt n k) 1 (⊎-elim (λ e. absurd (z (and-bit n k ∙ e))) (λ o. o) (bit-cases n k))
+
+-- a place of `n & m` is set where both have it, one of `n | m` where one of the two has it
+and-digit : (a b : ℕ) → a < 2 → b < 2 → eqb (bitAnd a b) 1 ≡ (eqb a 1 && eqb b 1)
+and-digit zero zero h k = refl
+and-digit zero (suc zero) h k = refl
+and-digit zero (suc (suc b)) h k = absurd (omega arith)
+and-digit (suc zero) zero h k = refl
+and-digit (suc zero) (suc zero) h k = refl
+and-digit (suc zero) (suc (suc b)) h k = absurd (omega arith)
+and-digit (suc (suc a)) b h k = absurd (omega arith)
+
+or-digit : (a b : ℕ) → a < 2 → b < 2 → eqb (bitOr a b) 1 ≡ (eqb a 1 || eqb b 1)
+or-digit zero zero h k = refl
+or-digit zero (suc zero) h k = refl
+or-digit zero (suc (suc b)) h k = absurd (omega arith)
+or-digit (suc zero) zero h k = refl
+or-digit (suc zero) (suc zero) h k = refl
+or-digit (suc zero) (suc (suc b)) h k = absurd (omega arith)
+or-digit (suc (suc a)) b h k = absurd (omega arith)
+
+pub test-and : (n m k : ℕ) → testBit (bitAnd n m) k ≡ (testBit n k && testBit m k)
+unfolding testBit
+test-and n m k =
+    ap (λ (x : ℕ). eqb x 1) (ap (λ (x : ℕ). x % 2) (and-shr n m k) ∙ and-mod (n / 2 ^ k) (m / 2 ^ k) 1)
+    ∙ and-digit (bitAt n k) (bitAt m k) (mod-lt (n / 2 ^ k) (lit< tt)) (mod-lt (m / 2 ^ k) (lit< tt))
+
+pub test-or : (n m k : ℕ) → testBit (bitOr n m) k ≡ (testBit n k || testBit m k)
+unfolding testBit
+test-or n m k =
+    ap (λ (x : ℕ). eqb x 1) (ap (λ (x : ℕ). x % 2) (or-shr n m k) ∙ or-mod (n / 2 ^ k) (m / 2 ^ k) 1)
+    ∙ or-digit (bitAt n k) (bitAt m k) (mod-lt (n / 2 ^ k) (lit< tt)) (mod-lt (m / 2 ^ k) (lit< tt))
+
+pub test-or-left : (n m k : ℕ) → testBit n k ≡ true → testBit (bitOr n m) k ≡ true
+test-or-left n m k e = test-or n m k ∙ rw e
+
+pub test-or-right : (n m k : ℕ) → testBit m k ≡ true → testBit (bitOr n m) k ≡ true
+test-or-right n m k e = test-or n m k ∙ or-true (testBit n k) e
+
+-- where `s & t == s`, every place set in s is set in t
+pub test-within : (s t k : ℕ) → bitAnd s t ≡ s → testBit s k ≡ true → testBit t k ≡ true
+test-within s t k e h =
+    and-right (testBit s k) (testBit t k) (sym (test-and s t k) ∙ ap (λ (x : ℕ). testBit x k) e ∙ h)
+
+-- a mask of w ones has each place below w
+pub ones-bit : (w k : ℕ) → k < w → testBit (2 ^ w - 1) k ≡ true
+unfolding testBit
+ones-bit w k h =
+    let d : w ≡ suc (w - k - 1) + k = omega arith in
+    let p : 0 < 2 ^ (w - k - 1) = pow-pos (w - k - 1) in
+    let s : 2 ^ suc (w - k - 1) ≡ 2 ^ (w - k - 1) * 2 = pow-suc 2 (w - k - 1) in
+    let q : (2 ^ w - 1) / 2 ^ k ≡ 2 ^ suc (w - k - 1) - 1 =
+    ap (λ (x : ℕ). (2 ^ x - 1) / 2 ^ k) d
+    ∙ ap (λ (x : ℕ). x / 2 ^ k) (ones-split (suc (w - k - 1)) k)
+    ∙ high (2 ^ suc (w - k - 1) - 1) k (ones-lt k) in
+    eq-eqb _ 1 (ap (λ (x : ℕ). x % 2) q ∙ omega arith)

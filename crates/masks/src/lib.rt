@@ -1,5 +1,6 @@
 // Sets of up to 32 places as masks of 32 bits, rows of 32 masks, and tables of 32 rows, by value.
 ghost use mathlib.Core.Path.{_≡_};
+ghost use mathlib.Core.Bool.{true, _&&_};
 ghost use Prim.Native.Nat.{ℕ, _<_};
 ghost use Rattle.limits.specs.Limits.{mostParties, maskPlaces};
 ghost use Rattle.masks.specs.promises.Mask.{testBit, withBit};
@@ -39,6 +40,15 @@ pub fn empty_row() -> Row
     }
 }
 
+// A row of full masks.
+pub fn full_row() -> Row
+    ensures { λ r. ⌜ ((u v : ℕ) → u < mostParties → v < maskPlaces → testBit (maskIn r u) v ≡ true) ⌝ }
+{
+    Row {
+        masks: [4294967295u32; MOST_PARTIES],
+    }
+}
+
 // A table of empty rows.
 pub fn empty_table() -> Table
     ensures { λ r. ⌜ ((u v : ℕ) → maskAt r u v ≡ 0) ⌝ }
@@ -67,6 +77,19 @@ pub fn add(row: Row, v: usize, place: u32) -> Row
 {
     let m = row.masks[v];
     put_mask(row, v, with(m, place))
+}
+
+// The places that both rows have.
+pub fn common(a: Row, b: Row) -> Row
+    ensures { λ r. ⌜ ((u v : ℕ) → testBit (maskIn r u) v ≡ (testBit (maskIn a u) v && testBit (maskIn b u) v)) ⌝ }
+{
+    let mut row = a;
+    let mut u: usize = 0;
+    while u < MOST_PARTIES {
+        row.masks[u] = a.masks[u] & b.masks[u];
+        u += 1;
+    }
+    row
 }
 
 // The table with another row for u.

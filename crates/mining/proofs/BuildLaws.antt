@@ -9,12 +9,13 @@ use native.Mathlib.Omega.{arith}
 use lib.ListN.{length, take, drop, length-append}
 use lib.Seq.{drop-at, length-take-le}
 use Rattle.lists.specs.Lists.{allOf, firstBy, flatMap}
-use Rattle.lists.proofs.Cases.{by-test, and-left, and-right}
+use Rattle.lists.proofs.Cases.{by-test, and-false, and-left, and-right}
 use Rattle.lists.proofs.ListLaws.{find-in}
 use Rattle.lists.proofs.OrderLaws.{length-map}
 use Rattle.lists.proofs.Pointwise.{map-append}
 use Rattle.masks.specs.promises.Mask.{testBit}
 use Rattle.masks.specs.promises.Table.{maskIn}
+use Rattle.masks.specs.declared.Row.{Row}
 use Rattle.rebac.specs.Matter.{Pair, IsPair}
 use Rattle.rebac.specs.Words.{Word}
 use Rattle.rebac.specs.Paths.{has}
@@ -32,12 +33,13 @@ use Rattle.fields.specs.Numbers.{u16Bytes, u16At}
 use Rattle.rule_bytes.specs.ListBytes.{encodeWord, encodeTerm}
 use Rattle.fields.specs.promises.Writing.{put}
 use Rattle.rule_bytes.specs.promises.Reading.{TermAt}
+use Rattle.rules.specs.promises.Meets.{meetsTerm}
 use Rattle.fields.proofs.NumberLaws.{u16-size}
 use Rattle.rule_bytes.proofs.RoundTrip.{words-more, word-size}
 use Rattle.fields.proofs.PutLaws.{put-length}
 use Rattle.rule_bytes.proofs.PlaceLaws.{term-ahead}
 use Rattle.mining.specs.promises.Pairs.{pairAt, isPairAt, pairsFrom}
-use Rattle.mining.specs.promises.Building.{problemIn, encodedTerm, firstBytes, termBytes, OutcomeAs, TermBegun}
+use Rattle.mining.specs.promises.Building.{problemIn, encodedTerm, firstBytes, termBytes, OutcomeAs, CoversTerm, TermBegun}
 use Rattle.mining.specs.Values.{pairValue}
 use Rattle.mining.specs.declared.build.Outcome.the-variants.{Rival, Term as TermTo}
 use Rattle.mining.proofs.GridLaws.{pairs-numbered, pairs-skip, pairs-take, pairs-end}
@@ -98,12 +100,10 @@ begin-length S p (w ∷ ws) h = refl
 plain-more : (t : Term Word) (i : Item Word) → plainTerm (t ++ (i ∷ [])) ≡ plainTerm t ++ (i .word ∷ [])
 plain-more t i = map-append (λ j. j .word) t (i ∷ [])
 
-size-more : (t : Term Word) (i : Item Word) → length (encodedTerm (t ++ (i ∷ []))) ≡ length (encodedTerm t) + 1 + length (i .word)
+pub words-size-more : (ws : List Word) (w : Word) → length (encodeTerm (ws ++ (w ∷ []))) ≡ length (encodeTerm ws) + 1 + length w
 unfolding encodeTerm
-size-more t i =
-    let ws = plainTerm t in
-    let w = i .word in
-    rw (plain-more t i, words-more ws w)
+words-size-more ws w =
+    rw (words-more ws w)
     (omega (
       arith,
       length-append (u16Bytes (length (ws ++ (w ∷ [])))) (flatMap encodeWord ws ++ encodeWord w),
@@ -114,11 +114,14 @@ size-more t i =
       word-size w,
     ))
 
-size-least : (t : Term Word) → 2 ≤ length (encodedTerm t)
+pub words-size-least : (ws : List Word) → 2 ≤ length (encodeTerm ws)
 unfolding encodeTerm
-size-least t =
-    let n = length (plainTerm t) in
-    omega (arith, length-append (u16Bytes n) (flatMap encodeWord (plainTerm t)), u16-size n)
+words-size-least ws =
+    let n = length ws in
+    omega (arith, length-append (u16Bytes n) (flatMap encodeWord ws), u16-size n)
+
+size-more : (t : Term Word) (i : Item Word) → length (encodedTerm (t ++ (i ∷ []))) ≡ length (encodedTerm t) + 1 + length (i .word)
+size-more t i = rw (plain-more t i) (words-size-more (plainTerm t) (i .word))
 
 module _ (S : Problem Pair Word) (p : Pair) where
   pub size-grows : (t : Term Word) (qs : List Pair) → length (encodedTerm t) ≤ length (encodedTerm (addAll S p t qs))
@@ -149,8 +152,8 @@ lackedIn a p q = firstBy (lacks (problemIn a) p q) (wordsOf (problemIn a) p)
 abbrev rivalIn : Archive → Pair → Option Pair
 rivalIn a p = rivalFrom (problemIn a) p (begin (problemIn a) p (wordsOf (problemIn a) p)) (problemIn a .pairs)
 
--- the term so far, before the pair of number k
-pub record Building (a : Archive) (p : Pair) (at : ℕ) (b : List ℕ) (k number end : ℕ) (out : List ℕ) : Type 0 where
+-- the term so far, before the pair of number k, and a row that covers it
+pub record Building (a : Archive) (p : Pair) (at : ℕ) (b : List ℕ) (k number end : ℕ) (row : Row) (out : List ℕ) : Type 0 where
   pub term : Term Word
   pub owned : Owned (problemIn a) p term
   pub rest : addAll (problemIn a) p term (pairsFrom (a .parties) k) ≡ termOf (problemIn a) p
@@ -158,12 +161,13 @@ pub record Building (a : Archive) (p : Pair) (at : ℕ) (b : List ℕ) (k number
   pub bytes : out ≡ put b at (encodedTerm term)
   pub words : number ≡ length term
   pub ends : end ≡ at + length (encodedTerm term)
+  pub covers : CoversTerm a (plainTerm term) row
 
-module _ {a : Archive} {p : Pair} {at from : ℕ} {b : List ℕ} (R : TermBegun a p at from b) where
+module _ {a : Archive} {p : Pair} {at from : ℕ} {walked : Row} {b : List ℕ} (R : TermBegun a p at from walked b) where
   pub begun-bounded : a .parties ≤ 32
   begun-bounded = shown-bounded (R .shown)
 
-  pub build-start : Building a p at b 0 1 from b
+  pub build-start : Building a p at b 0 1 from walked b
   unfolding firstBytes termOf
   build-start =
       let n : pairsFrom (a .parties) 0 ≡ problemIn a .pairs = pairs-numbered (a .parties) begun-bounded ∙ sym (problem-pairs a) in
@@ -175,16 +179,17 @@ module _ {a : Archive} {p : Pair} {at from : ℕ} {b : List ℕ} (R : TermBegun 
         bytes = sym (R .stands);
         words = sym (begin-length (problemIn a) p (wordsOf (problemIn a) p) (R .worded));
         ends = R .ends;
+        covers = R .covers;
       }
 
-  module _ {k number end : ℕ} {out : List ℕ} (B : Building a p at b k number end out) where
+  module _ {k number end : ℕ} {row : Row} {out : List ℕ} (B : Building a p at b k number end row out) where
     -- the bytes so far have room, and are a term's
     pub build-room : (at + 2 ≤ end) × (end ≤ at + length (termBytes a p))
     unfolding termBytes
     build-room =
         let s = size-grows (problemIn a) p (B .term) (pairsFrom (a .parties) k) in
         let e = ap (λ (t : Term Word). length (encodedTerm t)) (B .rest) in
-        (omega (arith, size-least (B .term), B .ends), omega (arith, s, e, B .ends))
+        (omega (arith, words-size-least (plainTerm (B .term)), B .ends), omega (arith, s, e, B .ends))
 
     pub build-bounded : number ≤ 993
     build-bounded =
@@ -225,7 +230,7 @@ module _ {a : Archive} {p : Pair} {at from : ℕ} {b : List ℕ} (R : TermBegun 
       small = omega (arith, begun-bounded)
 
       -- the pair is passed: it is none,
-      build-pass : isPairAt (a .parties) k ≡ false → Building a p at b (k + 1) number end out
+      build-pass : isPairAt (a .parties) k ≡ false → Building a p at b (k + 1) number end row out
       build-pass e = record {
         term = B .term;
         owned = B .owned;
@@ -234,6 +239,7 @@ module _ {a : Archive} {p : Pair} {at from : ℕ} {b : List ℕ} (R : TermBegun 
         bytes = B .bytes;
         words = B .words;
         ends = B .ends;
+        covers = B .covers;
       }
 
       module _ (e : isPairAt (a .parties) k ≡ true) where
@@ -244,7 +250,7 @@ module _ {a : Archive} {p : Pair} {at from : ℕ} {b : List ℕ} (R : TermBegun 
         ahead-rivals = rw (pairs-take (a .parties) k small e) at (B .rivals)
 
         -- or it is permitted or does not meet the term
-        build-unmet : meetsIt (problemIn a) (pairAt k) (B .term) ≡ false → Building a p at b (k + 1) number end out
+        build-unmet : meetsIt (problemIn a) (pairAt k) (B .term) ≡ false → Building a p at b (k + 1) number end row out
         build-unmet f = record {
           term = B .term;
           owned = B .owned;
@@ -253,9 +259,21 @@ module _ {a : Archive} {p : Pair} {at from : ℕ} {b : List ℕ} (R : TermBegun 
           bytes = B .bytes;
           words = B .words;
           ends = B .ends;
+          covers = B .covers;
         }
 
-      pub extend-skip : unpermittedAt a k ≡ false → Building a p at b (k + 1) number end out
+      -- or it is not in the row
+      pub extend-passed : testBit (maskIn row (k / 32)) (k % 32) ≡ false → Building a p at b (k + 1) number end row out
+      unfolding meetsTerm
+      extend-passed e =
+          by-test (isPairAt (a .parties) k)
+          (λ i.
+          let f = B .covers (k / 32) (k % 32) (pair-of (a .parties) (k / 32) (k % 32) i) e in
+          let m = owned-met (R .shown .1) p (pairAt k) (B .term) (B .owned) ∙ f in
+          build-unmet i (and-false (not (problemIn a .permitted (pairAt k))) m))
+          build-pass
+
+      pub extend-skip : unpermittedAt a k ≡ false → Building a p at b (k + 1) number end row out
       extend-skip e =
           by-test (isPairAt (a .parties) k)
           (λ i. build-unmet i (rw (problem-permitted a (pairAt k), rw i at e) refl))
@@ -267,13 +285,15 @@ pub record Turn : Type 0 where
   pub p : Pair
   pub at : ℕ
   pub from : ℕ
+  pub walked : Row
   pub old : List ℕ
-  pub begun : TermBegun a p at from old
+  pub begun : TermBegun a p at from walked old
   pub k : ℕ
   pub number : ℕ
   pub end : ℕ
+  pub row : Row
   pub out : List ℕ
-  pub built : Building a p at old k number end out
+  pub built : Building a p at old k number end row out
   pub turn : k < 32 * a .parties
   pub unpermitted : unpermittedAt a k ≡ true
 
@@ -307,7 +327,7 @@ module _ (T : Turn) where
 
   -- it misses a word of the term
   pub turn-unmet : allOf (hasAt T) (wordsAt T) ≡ false
-      → Building (T .a) (T .p) (T .at) (T .old) (T .k + 1) (T .number) (T .end) (T .out)
+      → Building (T .a) (T .p) (T .at) (T .old) (T .k + 1) (T .number) (T .end) (T .row) (T .out)
   turn-unmet f = build-unmet (T .begun) (T .built) (T .turn) is-pair (met ∙ f)
 
   module _ (f : allOf (hasAt T) (wordsAt T) ≡ true) where
@@ -328,9 +348,10 @@ module _ (T : Turn) where
       longer : addAll S (T .p) (t ++ (itemOf S (T .p) w ∷ [])) (pairsFrom (T .a .parties) (T .k + 1)) ≡ termOf S (T .p)
       longer = sym (add-here S (T .p) t (pairAt (T .k)) _ (met ∙ f) g) ∙ ahead (T .begun) (T .built) (T .turn) is-pair
 
-      pub turn-more : {n : ℕ} {new : List ℕ} → length w ≡ n → new ≡ put (T .old) (T .at) (encodeTerm (wordsAt T ++ (w ∷ [])))
-          → Building (T .a) (T .p) (T .at) (T .old) (T .k + 1) (T .number + 1) (T .end + 1 + n) new
-      turn-more l e =
+      pub turn-more : {n : ℕ} {row : Row} {new : List ℕ} → length w ≡ n → CoversTerm (T .a) (wordsAt T ++ (w ∷ [])) row
+          → new ≡ put (T .old) (T .at) (encodeTerm (wordsAt T ++ (w ∷ [])))
+          → Building (T .a) (T .p) (T .at) (T .old) (T .k + 1) (T .number + 1) (T .end + 1 + n) row new
+      turn-more l c e =
           let i = itemOf S (T .p) w in
           let r = ahead-rivals (T .begun) (T .built) (T .turn) is-pair in
           record {
@@ -341,6 +362,7 @@ module _ (T : Turn) where
             bytes = e ∙ ap (λ (x : List (List ℕ)). put (T .old) (T .at) (encodeTerm x)) (sym (plain-more t i));
             words = omega (arith, T .built .words, length-append t (i ∷ []));
             ends = omega (arith, T .built .ends, size-more t i, l);
+            covers = rw (plain-more t i) c;
           }
 
       pub turn-room : T .end + 1 + length w ≤ length (T .old)

@@ -21,7 +21,7 @@ use Rattle.rule_bytes.specs.ListBytes.{encodeTerm}
 use Rattle.fields.specs.promises.Writing.{put}
 use Rattle.rule_bytes.proofs.RoundTrip.{term-size, word-size}
 use Rattle.fields.proofs.PutLaws.{put-over}
-use Rattle.mining.specs.promises.Building.{problemIn, firstBytes, termBytes, OutcomeAs}
+use Rattle.mining.specs.promises.Building.{problemIn, firstBytes, firstTerm, termBytes, OutcomeAs}
 use Rattle.mining.specs.declared.build.Outcome.{Outcome}
 use Rattle.mining.proofs.ArchiveLaws.{problem-shown}
 use Rattle.mining.proofs.BuildLaws.{size-grows}
@@ -61,6 +61,9 @@ module _ {M : Matter} {a : Archive} (h : Shows M a) (p : Pair) where
   pub first-bytes : {v : Word} → nextWord M p [] ≡ some v → firstBytes a p ≡ encodeTerm (v ∷ [])
   unfolding firstBytes
   first-bytes e = rw (first-cons e .1) refl
+
+  pub first-term : {v : Word} → nextWord M p [] ≡ some v → firstTerm a p ≡ v ∷ []
+  first-term e = rw (first-cons e .1) refl
 
   pub first-size : {v : Word} → nextWord M p [] ≡ some v → length (firstBytes a p) ≡ 3 + length v
   first-size {v} e = ap length (first-bytes e) ∙ one-size v

@@ -5,8 +5,8 @@ use mathlib.Core.List.{List, []}
 use mathlib.Core.Option.{Option, none, some}
 use Prim.Native.Nat.{ℕ, suc, _≤_, _<_}
 use native.Mathlib.Omega.{arith}
-use lib.ListN.{length}
-use Rattle.lists.specs.Lists.{firstBy, filterBy}
+use lib.ListN.{length, replicate}
+use Rattle.lists.specs.Lists.{filterBy}
 use Rattle.lists.proofs.Cases.{by-test}
 use Rattle.rebac.specs.Matter.{Matter, Pair}
 use Rattle.rebac.specs.Paths.{has}
@@ -16,19 +16,28 @@ use Rattle.rebac.specs.Verdict.{wordsOf}
 use Rattle.rebac.specs.Mining.{lacks}
 use Rattle.rebac.specs.Existence.{problemOf, problemOver, matterWords}
 use Rattle.rebac.specs.NextWord.{pairWords, nextWord}
-use Rattle.rebac.proofs.NextWords.{wordsLeft, firstAfter}
-use Rattle.rebac.proofs.Conversion.{score-one}
+use Rattle.rebac.proofs.NextWords.{wordsLeft}
+use Rattle.rebac.proofs.PlainLaws.{lacks-plain}
 use Rattle.rebac.proofs.NextWordLaws.{next-finds, first-after-start, first-after-none, first-after-here, first-after-next, words-left-fall}
 use Rattle.graph.specs.declared.Archive.{Archive}
 use Rattle.graph.specs.promises.Archive.{Shows}
 use Rattle.words.specs.declared.next.Next.{Next}
 use Rattle.search.specs.Word.{symbolsIn}
+use Rattle.search.specs.declared.word.Word.{Word as WordValue}
 use Rattle.search.specs.promises.WordValues.{Short}
 use Rattle.search.specs.promises.PairSearch.{tableGraph}
 use Rattle.words.specs.promises.Next.{NextAs}
 use Rattle.search.proofs.SearchLaws.{symbols-length}
 use Rattle.words.proofs.NextLaws.{next-not, next-some, next-as}
 use Rattle.paths.proofs.CallLaws.{shown-graph}
+use Rattle.mining.specs.promises.Kept.{firstLacked, HadTo}
+
+-- the empty word as a value
+abbrev pub emptyWord : WordValue
+emptyWord = record { len = 0; symbols = replicate 31 0 }
+
+pub empty-short : Short emptyWord
+empty-short = record { len = omega arith; full = refl; symbols = λ i h. absurd (omega (arith, h)) }
 
 -- what was found is the word
 pub found-some : (o : Option (List ℕ)) (r : Next) → NextAs o r → r .found ≡ true → o ≡ some (symbolsIn (r .word))
@@ -48,60 +57,46 @@ leftWith a p false w = 0
 abbrev pub leftIn : Archive → Pair → Next → ℕ
 leftIn a p c = leftWith a p (c .found) (symbolsIn (c .word))
 
--- the first word of p's that q lacks
-abbrev pub lackedOf : Matter → Pair → Pair → Option (List ℕ)
-lackedOf M p q = firstBy (lacks (problemOf M) p q) (pairWords M p)
-
 -- c is the pair's next word after one up to which the other pair has all
 pub record Passed (M : Matter) (p q : Pair) (c : Next) : Type 0 where
   pub from : List ℕ
   pub next : NextAs (nextWord M p from) c
-  pub same : lackedOf M p q ≡ firstAfter M p (lacks (problemOf M) p q) from
+  pub same : HadTo M p q from
 
 -- the word in hand is one of the pair's
 pub record InHand (M : Matter) (p : Pair) (c : Next) : Type 0 where
+  pub some : 1 ≤ length (symbolsIn (c .word))
   pub short : length (symbolsIn (c .word)) ≤ M .longest
   pub held : has (enlarged M) p (symbolsIn (c .word)) ≡ true
 
--- a word of the pair is lacked exactly where the other pair has it not
-lacks-not : (M : Matter) (p q : Pair) (w : List ℕ) → has (enlarged M) p w ≡ true
-    → lacks (problemOf M) p q w ≡ not (has (enlarged M) q w)
-unfolding lacks problemOf problemOver
-lacks-not M p q w h =
-    rw (score-one M refl p w, score-one M refl q w, h)
-    (by-test (has (enlarged M) q w) (λ e. rw e refl) (λ e. rw e refl))
-
 module _ {M : Matter} {p q : Pair} {c : Next} (h : Passed M p q c) where
-  pub passed-end : c .found ≡ false → lackedOf M p q ≡ none
+  pub passed-end : c .found ≡ false → firstLacked M p q ≡ none
   passed-end e = h .same ∙ first-after-none M p (lacks (problemOf M) p q) (h .from) (next-not (nextWord M p (h .from)) c (h .next) e)
 
   module _ (e : c .found ≡ true) where
     -- the word in hand is the next one
-    next-is : nextWord M p (h .from) ≡ some (symbolsIn (c .word))
+    pub next-is : nextWord M p (h .from) ≡ some (symbolsIn (c .word))
     next-is = found-some (nextWord M p (h .from)) c (h .next) e
 
     pub in-hand : InHand M p c
-    in-hand = let k = next-finds M p (h .from) .found _ next-is in record { short = k .fits .short; held = k .held }
+    in-hand = let k = next-finds M p (h .from) .found _ next-is in record { some = k .fits .some; short = k .fits .short; held = k .held }
 
     module _ {a : Archive} (S : Shows M a) where
       lacks-it : {b : Bool} → has (tableGraph (a .parties) (a .graph)) q (symbolsIn (c .word)) ≡ b
           → lacks (problemOf M) p q (symbolsIn (c .word)) ≡ not b
-      lacks-it n = lacks-not M p q (symbolsIn (c .word)) (in-hand .held) ∙ ap not (rw (shown-graph M a S) at n)
+      lacks-it n = lacks-plain M refl p q (symbolsIn (c .word)) (in-hand .held) ∙ ap not (rw (shown-graph M a S) at n)
 
-      pub passed-here : has (tableGraph (a .parties) (a .graph)) q (symbolsIn (c .word)) ≡ false → NextAs (lackedOf M p q) c
+      pub passed-here : has (tableGraph (a .parties) (a .graph)) q (symbolsIn (c .word)) ≡ false → NextAs (firstLacked M p q) c
       passed-here n =
           next-as _ c _ (h .same ∙ first-after-here M p (lacks (problemOf M) p q) (h .from) _ next-is (lacks-it n)) e refl
 
-      pub passed-again : {r : Next} → has (tableGraph (a .parties) (a .graph)) q (symbolsIn (c .word)) ≡ true
-          → NextAs (nextWord M p (symbolsIn (c .word))) r → Passed M p q r
-      passed-again n x = record {
-        from = symbolsIn (c .word);
-        next = x;
-        same = h .same ∙ first-after-next M p (lacks (problemOf M) p q) (h .from) _ next-is (lacks-it n);
-      }
+      -- the other pair has it: then it has all up to it
+      pub passed-had : has (tableGraph (a .parties) (a .graph)) q (symbolsIn (c .word)) ≡ true → HadTo M p q (symbolsIn (c .word))
+      passed-had n = h .same ∙ first-after-next M p (lacks (problemOf M) p q) (h .from) _ next-is (lacks-it n)
 
-pub passed-start : {M : Matter} {p q : Pair} {c : Next} → NextAs (nextWord M p []) c → Passed M p q c
-passed-start {M} {p} {q} h = record { from = []; next = h; same = sym (first-after-start M p (lacks (problemOf M) p q)) }
+-- it has all up to the empty word, which stands before all
+pub had-none : (M : Matter) (p q : Pair) → HadTo M p q []
+had-none M p q = sym (first-after-start M p (lacks (problemOf M) p q))
 
 module _ {M : Matter} {a : Archive} (S : Shows M a) where
   pub words-left-in : (p : Pair) (w : List ℕ) → wordsLeftIn a p w ≡ wordsLeft M p w
@@ -122,3 +117,6 @@ module _ {M : Matter} {a : Archive} (S : Shows M a) where
 
   pub in-hand-short : {p : Pair} {c : Next} → Short (c .word) → InHand M p c → c .word .len ≤ a .longest
   in-hand-short {c = c} s h = omega (arith, symbols-length (c .word) (omega (arith, s .len, s .full)), h .short, S .longest)
+
+pub in-hand-some : {M : Matter} {p : Pair} {c : Next} → Short (c .word) → InHand M p c → 1 ≤ c .word .len
+in-hand-some {c = c} s h = omega (arith, symbols-length (c .word) (omega (arith, s .len, s .full)), h .some)

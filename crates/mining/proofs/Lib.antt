@@ -1,8 +1,11 @@
 pub mod LackedLaws
+pub mod ShortcutLaws
+pub mod KeptLaws
 pub mod TermLaws
 pub mod GridLaws
 pub mod ArchiveLaws
 pub mod BuildLaws
+pub mod CoverLaws
 pub mod FirstLaws
 pub mod MarkLaws
 pub mod TakeLaws

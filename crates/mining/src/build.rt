@@ -9,8 +9,10 @@ ghost use Rattle.masks.specs.promises.Table.{maskIn};
 ghost use Rattle.rebac.specs.Matter.{pair};
 ghost use Rattle.rebac.specs.Verdict.{judge};
 ghost use Rattle.graph.specs.Legal.{isPair};
-ghost use Rattle.mining.specs.promises.Building.{problemIn, OutcomeAs, endOf, TermRoom, TermBegun};
-use crate::lacked::first_lacked;
+ghost use Rattle.mining.specs.promises.Building.{problemIn, OutcomeAs, TermRoom, TermBegun};
+use crate::kept::KEPT_SIZE;
+use crate::kept::Kept;
+use crate::kept::first_lacked;
 use crate::lacked::first_word;
 use crate::term::add_word;
 use graph::Archive;
@@ -29,17 +31,6 @@ pub enum Outcome {
     Term(usize),
 }
 
-// Where the term ends; `at` where there is none.
-pub fn end_of(outcome: Outcome, at: usize) -> usize
-    ensures { λ r. ⌜ r ≡ endOf outcome at ⌝ }
-{
-    match outcome {
-        Outcome::NoWord => at,
-        Outcome::Rival(q) => at,
-        Outcome::Term(end) => end,
-    }
-}
-
 // Whether two numbers are a pair that the table doesn't permit.
 pub fn unpermitted(n: usize, permits: Row, u: usize, v: usize) -> bool
     requires { ⌜ n ≤ mostParties ⌝ }
@@ -52,6 +43,7 @@ pub fn unpermitted(n: usize, permits: Row, u: usize, v: usize) -> bool
 }
 
 // From the term of the pair's first word to its whole term, against each unpermitted pair in order; at a missing word to the next pair.
+// A pair that cannot walk each word so far is passed before anything is searched; `walked` are those that can walk the first word.
 fn extend_term(
     a: Archive,
     first: usize,
@@ -59,17 +51,24 @@ fn extend_term(
     out: &mut [u8],
     at: usize,
     from: usize,
+    walked: Row,
 ) -> Outcome
-    requires { ⌜ TermBegun a (pair first second) at from (now out) ⌝ }
+    requires { ⌜ TermBegun a (pair first second) at from walked (now out) ⌝ }
     ensures { λ r. ⌜ OutcomeAs a (pair first second) at (now (out .entry)) (now (out .exit))
         (judge (problemIn a) (pair first second)) r ⌝ }
 {
     let mut number: usize = 1;
     let mut end = from;
+    let mut alive = walked;
+    let mut list = [0u8; KEPT_SIZE];
+    let mut kept = Kept { number: 0, end: 2 };
     let count = MOST_PARTIES * a.parties;
     'pairs: for k in 0..count {
         let u: usize = k / MOST_PARTIES;
         let v: usize = k % MOST_PARTIES;
+        if !masks::has(alive.masks[u], v as u32) {
+            continue 'pairs;
+        }
         if !unpermitted(a.parties, a.permits, u, v) {
             continue 'pairs;
         }
@@ -84,7 +83,9 @@ fn extend_term(
             place = r.next;
             left -= 1;
         }
-        let c = first_lacked(a, first, second, u, v);
+        let l = first_lacked(a, first, second, u, v, &mut list, kept);
+        kept = l.kept;
+        let c = l.next;
         if !c.found {
             return Outcome::Rival(Pair {
                 first: u,
@@ -92,6 +93,7 @@ fn extend_term(
             });
         }
         let w = c.word;
+        alive = masks::common(alive, search::walk_pairs(a.graph, a.parties, w));
         add_word(out, at, end, number, w);
         end = end + 1 + w.len;
         number += 1;
@@ -112,5 +114,6 @@ pub fn build_term(a: Archive, first: usize, second: usize, out: &mut [u8], at: u
     let w = c.word;
     fields::put_u16(out, at, 0);
     add_word(out, at, at + 2, 0, w);
-    extend_term(a, first, second, out, at, at + 3 + w.len)
+    let walked = search::walk_pairs(a.graph, a.parties, w);
+    extend_term(a, first, second, out, at, at + 3 + w.len, walked)
 }

@@ -1,14 +1,12 @@
-// The first word of a pair, and the first that another pair lacks.
+// The first word of a pair, and the first after a word that another pair lacks.
 ghost use mathlib.Core.List.{[]};
+ghost use Prim.Native.Nat.{_≤_};
 ghost use Rattle.rebac.specs.Matter.{Matter, IsPair, pair};
-ghost use Rattle.rebac.specs.Existence.{problemOf};
-ghost use Rattle.rebac.specs.NextWord.{pairWords, nextWord};
-ghost use Rattle.rebac.specs.Mining.{lacks};
-ghost use Rattle.lists.specs.Lists.{firstBy};
+ghost use Rattle.rebac.specs.NextWord.{nextWord};
 ghost use Rattle.graph.specs.promises.Archive.{Shows};
 ghost use Rattle.search.specs.promises.WordValues.{Short};
 ghost use Rattle.words.specs.promises.Next.{NextAs};
-ghost use Rattle.mining.specs.promises.Building.{TwoPairs};
+ghost use Rattle.mining.specs.promises.Kept.{firstLacked, HadQuery};
 use graph::Archive;
 use limits::WORD_CAPACITY;
 use search::Word;
@@ -26,18 +24,40 @@ pub fn first_word(a: Archive, first: usize, second: usize) -> Next
     words::next_word(a.graph, a.parties, first, second, a.longest, empty)
 }
 
-// The words of the pair (first, second) in order, up to the first that (u, v) lacks.
-pub fn first_lacked(a: Archive, first: usize, second: usize, u: usize, v: usize) -> Next
-    requires { ⌜ TwoPairs a (pair first second) (pair u v) ⌝ }
-    ensures { λ r. ⌜ Short (r .word) × ((M : Matter) → Shows M a
-        → NextAs (firstBy (lacks (problemOf M) (pair first second) (pair u v)) (pairWords M (pair first second))) r) ⌝ }
+// So many words are passed one by one before classes are tried: for most pairs that is quicker.
+const WORDS_BEFORE_CLASSES: u32 = 512;
+
+// The first word that (u, v) lacks, by classes. It has the words up to `had`.
+fn lacked_by_classes(a: Archive, first: usize, second: usize, u: usize, v: usize, had: Word) -> Next
+    requires { ⌜ HadQuery a (pair first second) (pair u v) had × (1 ≤ had .len) ⌝ }
+    ensures { λ r. ⌜ Short (r .word)
+        × ((M : Matter) → Shows M a → NextAs (firstLacked M (pair first second) (pair u v)) r) ⌝ }
 {
-    let mut c = first_word(a, first, second);
+    let from = had.len - 1;
+    classes::first_telling_word(a.graph, a.parties, first, second, u, v, from, a.longest)
+}
+
+// The words of the pair (first, second) in order after `had`, up to the first that (u, v) lacks. It has those up to `had`.
+// Before them a map is tried that shows that it has all, and after some of them classes.
+pub fn lacked_after(a: Archive, first: usize, second: usize, u: usize, v: usize, had: Word) -> Next
+    requires { ⌜ HadQuery a (pair first second) (pair u v) had ⌝ }
+    ensures { λ r. ⌜ Short (r .word)
+        × ((M : Matter) → Shows M a → NextAs (firstLacked M (pair first second) (pair u v)) r) ⌝ }
+{
+    if maps::carried(a.graph, a.parties, first, second, u, v) {
+        return words::nothing(had);
+    }
+    let mut passed: u32 = 0;
+    let mut c = words::next_word(a.graph, a.parties, first, second, a.longest, had);
     while c.found {
         let w = c.word;
         if !search::has_word(a.graph, a.parties, u, v, w) {
             return c;
         }
+        if passed >= WORDS_BEFORE_CLASSES {
+            return lacked_by_classes(a, first, second, u, v, w);
+        }
+        passed += 1;
         c = words::next_word(a.graph, a.parties, first, second, a.longest, w);
     }
     c

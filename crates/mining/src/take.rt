@@ -14,7 +14,7 @@ ghost use Rattle.graph.specs.Legal.{isPair};
 ghost use Rattle.rule_bytes.specs.promises.Reading.{TermAt, SomeTerm};
 ghost use Rattle.rules.specs.promises.Meets.{meetsTerm};
 ghost use Rattle.mining.specs.promises.Pairs.{pairAt};
-ghost use Rattle.mining.specs.promises.Building.{problemIn};
+ghost use Rattle.mining.specs.promises.Building.{problemIn, CoversTerm};
 ghost use Rattle.mining.specs.promises.Taking.{PairMarks, dueBy, DueQuery, TurnAs};
 use crate::build::Outcome;
 use crate::build::build_term;
@@ -28,6 +28,24 @@ pub struct PairTurn {
     pub marks: Row,
 }
 
+// The pairs that can walk each word of the term at a place. The others do not meet it.
+fn term_pairs(a: Archive, list: &[u8], at: usize) -> Row
+    requires { ⌜ (a .parties ≤ mostParties) × SomeTerm (now list) at ⌝ }
+    ensures { λ r. ⌜ ((t : List (List ℕ)) (s : List ℕ) → TermAt (now (list .entry)) at t s → CoversTerm a t r) ⌝ }
+{
+    let mut row = masks::full_row();
+    let mut left = fields::u16_at(list, at);
+    let mut place = at + 2;
+    while left > 0 {
+        let r = rule_bytes::read_word(list, place);
+        let word = r.word;
+        row = masks::common(row, search::walk_pairs(a.graph, a.parties, word));
+        place = r.next;
+        left -= 1;
+    }
+    row
+}
+
 // The marks with those of the pairs that meet the term at a place.
 fn mark_term(a: Archive, marks: Row, list: &[u8], at: usize) -> Row
     requires { ⌜ (a .parties ≤ mostParties) × SomeTerm (now list) at ⌝ }
@@ -35,11 +53,15 @@ fn mark_term(a: Archive, marks: Row, list: &[u8], at: usize) -> Row
         → testBit (maskIn r u) v
         ≡ (testBit (maskIn marks u) v || (isPair (a .parties) u v && meetsTerm (a .parties) (a .graph) u v t))) ⌝ }
 {
+    let alive = term_pairs(a, list, at);
     let mut row = marks;
     let count = MOST_PARTIES * a.parties;
     for k in 0..count {
         let u: usize = k / MOST_PARTIES;
         let v: usize = k % MOST_PARTIES;
+        if !masks::has(alive.masks[u], v as u32) {
+            continue;
+        }
         if !graph::is_pair(a.parties, u, v) {
             continue;
         }

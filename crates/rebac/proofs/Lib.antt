@@ -13,10 +13,13 @@ pub mod SymbolsLaws
 pub mod PairsLaws
 pub mod Conversion
 pub mod PlainLaws
+pub mod LackedLaws
 pub mod AnyList
 pub mod NextWordLaws
 pub mod FormLaws
 pub mod SearchLaws
+pub mod CarriedLaws
 pub mod MatterLaws
 pub mod MarkedLaws
 pub mod OptionLaws
+pub mod AlikeLaws

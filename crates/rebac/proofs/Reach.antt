@@ -192,11 +192,14 @@ module _ {S : Type 0} (g : Graph S) where
   has-iff p d w = (λ e. has-out p w (has-some p d w e) e, λ r. has-in p w (r .0) (r .1))
 
   -- the paths listed are the paths
-  pub paths-in : (p : Pair) (w : List S) (via : List ℕ) → Path g p w via → List·Memᴰ (p .first ∷ via) (pathsOf g p w)
+  pub walks-in : (p : Pair) (w : List S) (via : List ℕ) → SimpleWalk p w via → List·Memᴰ (p .first ∷ via) (pathsOf g p w)
   unfolding pathsOf
-  paths-in p w via r =
+  walks-in p w via r =
       map-in (λ l. p .first ∷ l) (routes g (p .first ∷ []) (p .first) (p .second) w)
-      (routes-in (p .first ∷ []) (p .first) (p .second) w via (walk-onward p w via (path-walk p w via r)))
+      (routes-in (p .first ∷ []) (p .first) (p .second) w via (walk-onward p w via r))
+
+  pub paths-in : (p : Pair) (w : List S) (via : List ℕ) → Path g p w via → List·Memᴰ (p .first ∷ via) (pathsOf g p w)
+  paths-in p w via r = walks-in p w via (path-walk p w via r)
 
   pub walks-out : (p : Pair) (w : List S) {l : List ℕ} → List·Memᴰ l (pathsOf g p w)
       → (via : List ℕ) × (l ≡ p .first ∷ via) × SimpleWalk p w via

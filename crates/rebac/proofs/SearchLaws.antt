@@ -10,14 +10,14 @@ use lib.Dec.{eqb, leb}
 use lib.ListN.{length}
 use borrow.Author.Tests.{ne-eqb, eqb-true, eq-eqb}
 use Rattle.lists.specs.Lists.{anyOf, flatMap, member, range}
-use Rattle.lists.specs.Order.{Distinct, firstElement, sumOf}
+use Rattle.lists.specs.Order.{firstElement, sumOf}
 use Rattle.lists.proofs.Cases.{by-test, by-mem, both, and-left, and-right, and-both, and-false}
-use Rattle.lists.proofs.ListLaws.{any-in, any-none, any-same, filter-out, map-out, range-in, range-out}
+use Rattle.lists.proofs.ListLaws.{any-in, any-none, any-same, filter-out, range-in, range-out}
 use Rattle.lists.proofs.OrderLaws.{onlyIf, sum-mono, length-map}
 use Rattle.lists.proofs.Pointwise.{filter-same, filter-range, flat-same, distinct-short}
-use Rattle.rebac.specs.Matter.{Pair, pair}
-use Rattle.rebac.specs.Paths.{Graph, Walk, Path, has, candidates, routes, pathsOf, leastPath, pathCount}
-use Rattle.rebac.proofs.Reach.{reach, has-reach, routes-count, reach-out, has-walk, walk-has, least-is-walk}
+use Rattle.rebac.specs.Matter.{Pair}
+use Rattle.rebac.specs.Paths.{Graph, Path, has, candidates, routes, pathsOf, leastPath, pathCount}
+use Rattle.rebac.proofs.Reach.{reach, has-reach, routes-count, reach-out, has-walk, least-is-walk}
 use Rattle.rebac.proofs.Triples.{walk-length, walk-inside, walk-end}
 
 module _ {S : Type 0} (g h : Graph S) where
@@ -161,24 +161,3 @@ module _ {S : Type 0} (g : Graph S) where
     where
       more : (c x : ℕ) → member x (c ∷ seen) ≡ member x (c ∷ past)
       more c x = unfold anyOf in rw (f x)
-
--- A one-to-one map of parties that carries every edge carries every path, so the image of a pair has every word of the pair.
-module _ {S : Type 0} (g : Graph S) (f : ℕ → ℕ)
-    (inside : (u : ℕ) → u < g .parties → f u < g .parties)
-    (one : (u v : ℕ) → f u ≡ f v → u ≡ v)
-    (carry : (u v : ℕ) (s : S) → g .edge u v s ≡ true → g .edge (f u) (f v) s ≡ true) where
-  carry-walk : (a b : ℕ) (via : List ℕ) (w : List S) → Walk g a via w b → Walk g (f a) (map f via) w (f b)
-  carry-walk a b [] [] k = ap f k
-  carry-walk a b [] (s ∷ w) k = absurd k
-  carry-walk a b (c ∷ via) [] k = absurd k
-  carry-walk a b (c ∷ via) (s ∷ w) k = (inside c (k .0), carry a c s (k .1), carry-walk c b via w (k .2))
-
-  carry-distinct : (l : List ℕ) → Distinct l → Distinct (map f l)
-  carry-distinct [] d = tt
-  carry-distinct (x ∷ l) d = (λ m. let r = map-out f l m in d .0 (rw (one x (r .0) (r .2)) (r .1)), carry-distinct l (d .1))
-
-  pub has-carried : (p : Pair) (w : List S) → has g p w ≡ true → has g (pair (f (p .first)) (f (p .second))) w ≡ true
-  has-carried p w e =
-      let r = has-walk g p w e in
-      walk-has g (pair (f (p .first)) (f (p .second))) w (map f (r .0))
-      (record { walk = carry-walk (p .first) (p .second) (r .0) w (r .1 .walk); simple = carry-distinct (p .first ∷ r .0) (r .1 .simple) })

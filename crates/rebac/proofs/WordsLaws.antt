@@ -15,12 +15,12 @@ use Rattle.rebac.specs.Words.{Word, lexLess, before, wordsOfLength, word
 use Rattle.rebac.proofs.LexOrder.{first-lower, first-same, before-irreflexive, flat-ascending}
 
 module _ (al : List ℕ) where
-  length-in : (w : Word) → Over al w → List·Memᴰ w (wordsOfLength al (length w))
+  pub length-in : (w : Word) → Over al w → List·Memᴰ w (wordsOfLength al (length w))
   unfolding wordsOfLength
   length-in [] o = List·Memᴰ·head refl
   length-in (s ∷ w) o = flat-in _ al (o s (List·Memᴰ·head refl)) (map-in (λ v. s ∷ v) _ (length-in w (λ x m. o x (List·Memᴰ·tail m))))
 
-  length-out : (k : ℕ) {w : Word} → List·Memᴰ w (wordsOfLength al k) → Over al w × (length w ≡ k)
+  pub length-out : (k : ℕ) {w : Word} → List·Memᴰ w (wordsOfLength al k) → Over al w × (length w ≡ k)
   unfolding wordsOfLength
   length-out zero m = by-mem m (λ e. rw e (λ x n. absurd (List·Memᴰ·not-nil n), refl)) (λ n. absurd (List·Memᴰ·not-nil n))
   length-out (suc k) m =
@@ -49,7 +49,7 @@ module _ (al : List ℕ) where
       (λ n. let r = length-out (suc k) n in record { over = r .0; some = omega (arith, r .1); short = omega (arith, r .1) })
 
   module _ (up : Ascending ltb al) where
-    length-ascending : (k : ℕ) → Ascending lexLess (wordsOfLength al k)
+    pub length-ascending : (k : ℕ) → Ascending lexLess (wordsOfLength al k)
     unfolding wordsOfLength
     length-ascending zero = (λ y n. absurd (List·Memᴰ·not-nil n), tt)
     length-ascending (suc k) = flat-ascending (λ s. wordsOfLength al k) al up (λ s. length-ascending k)

@@ -4,3 +4,4 @@ pub mod WhileMining
 pub mod Forms
 pub mod Marked
 pub mod Options
+pub mod Telling

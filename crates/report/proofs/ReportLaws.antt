@@ -5,13 +5,12 @@ use mathlib.Core.List.{List, [], _++_, append-nil}
 use Prim.Native.Nat.{ℕ, _+_, _-_, _≤_, _<_}
 use native.Mathlib.Omega.{arith}
 use native.Mathlib.Nat.{zero-add}
-use lib.Dec.{leb}
 use lib.ListN.{length, take, drop, length-append, length-drop, drop-of-length-le}
 use lib.Seq.{length-take-le, take-append-seam, take-all, drop-drop}
 use borrow.Rule.Slice.PartAt.{part-to-end}
 use borrow.Rule.Slice.PartMut.{putMid, midOf}
-use borrow.Author.Tests.{leb-true, leb-false}
-use Rattle.lists.proofs.Cases.{by-test}
+use borrow.Author.Tests.{le-leb, lt-leb}
+use Rattle.rebac.specs.Matter.{Matter}
 use Rattle.rebac.specs.Verdict.{convertible}
 use Rattle.rebac.specs.Existence.{verdictOf}
 use Rattle.house_layout.specs.Layout.{editionOf, recordsOf}
@@ -19,6 +18,7 @@ use Rattle.house_layout.specs.Reply.{numberOf}
 use Rattle.house_file.specs.Check.{checkOf}
 use Rattle.house_layout.specs.declared.reply.Check.the-variants as check
 use Rattle.house_layout.specs.declared.reply.Refusal.{Refusal}
+use Rattle.house_layout.specs.declared.reply.Refusal.the-variants.{Output}
 use Rattle.house_file.proofs.WellFormedLaws.{framing}
 use Rattle.graph.specs.FileMatter.{matterOf}
 use Rattle.rule_bytes.specs.promises.Reading.{IsList}
@@ -26,18 +26,15 @@ use Rattle.rule_text.specs.Text.{listText}
 use Rattle.fields.specs.promises.Writing.{put, Wrote}
 use Rattle.rules.proofs.MatterLists.{mined-is-list}
 use Rattle.mining.specs.declared.build.Pair.{Pair}
-use Rattle.conversion.specs.Calls.{listOf, bytesOf, verdictCall, miningCall, miningReply, miningOutput}
-use Rattle.conversion.specs.declared.mine.MiningReply.{MiningReply}
-use Rattle.conversion.specs.declared.mine.MiningReply.the-variants.{Refused as RefusedMining, Wrote as WroteList}
+use Rattle.conversion.specs.Calls.{listOf, bytesOf, verdictCall}
 use Rattle.conversion.specs.declared.verdict.VerdictReply.{VerdictReply}
 use Rattle.conversion.specs.declared.verdict.VerdictReply.the-variants.{Refused, Convertible, NoWord, Rival}
 use Rattle.house_layout.proofs.LayoutLaws.{size-most}
 use Rattle.house_layout.proofs.RefusalNumbers.{number-small}
 use Rattle.house_layout.proofs.RecordLaws.{by-check}
-use Rattle.conversion.proofs.Demand3.{convertible-accepted, convertible-verdict, mining-exact}
-use Rattle.conversion.proofs.Demand3.{mining-short, length-bound, no-word-parties, rival-parties}
+use Rattle.conversion.proofs.Demand3.{convertible-accepted, convertible-verdict, length-bound, no-word-parties, rival-parties}
 use Rattle.fields.specs.Decimal.{decimalText}
-use Rattle.report.specs.promises.Prefix.{PrefixLength}
+use Rattle.report.specs.promises.Prefix.{PrefixLength, ListOf}
 use Rattle.report.specs.Report.{pairText, refusedLine, verdictLine, listPart, fileText, reportText}
 use Rattle.fields.proofs.WroteLaws.{wrote-two}
 use Rattle.fields.proofs.DecimalLaws.{decimal-length}
@@ -145,46 +142,26 @@ module _ (f : List ℕ) {v : VerdictReply} (e : verdictCall f ≡ v) {old new : 
       (rw t w, wrote-inside w)
 
   pub line-then-list :
-      {out : List ℕ} {last : ℕ} → Wrote old 0 (verdictLine v) out end → Wrote out end (listPart (matterOf f) v) new last
-      → Wrote old 0 (fileText f) new last × PrefixLength last new
-  line-then-list w p =
+      {out : List ℕ} {last k : ℕ} → v ≡ Convertible k → Wrote old 0 (verdictLine v) out end
+      → Wrote out end (listPart (matterOf f) (Convertible k)) new last → Wrote old 0 (fileText f) new last × PrefixLength last new
+  line-then-list c w p =
       let q = wrote-two w p (omega arith) in
-      (rw (text-by f v e) q, wrote-inside q)
+      let t = text-by f v e ∙ ap (λ (r : VerdictReply). verdictLine v ++ listPart (matterOf f) r) c in
+      (rw t q, wrote-inside q)
 
 bytes-list : (f : List ℕ) → checkOf f ≡ check.Accepted → verdictOf (matterOf f) ≡ convertible
     → IsList (bytesOf (matterOf f)) (listOf (matterOf f))
 unfolding bytesOf listOf
 bytes-list f e v = mined-is-list f e refl v
 
--- mining wrote the list of a convertible file: its j bytes, and the text's part that they are
-pub record MinedList (f : List ℕ) (k : ℕ) (list : List ℕ) (j : ℕ) : Type 0 where
-  pub bounded : j ≤ 65536
-  pub inside : j ≤ length list
-  pub bytes : IsList (take j list) (listOf (matterOf f))
-  pub part : listPart (matterOf f) (Convertible k) ≡ listText (listOf (matterOf f))
+-- the list that is printed, and the part of the text that it is; or that it is too long
+pub list-is : {k : ℕ} {list : List ℕ} (f : List ℕ) → ListOf f k list → k ≤ 65536 → IsList (take k list) (listOf (matterOf f))
+list-is {k} f L h =
+    let e = convertible-accepted f k (L .verdict) in
+    rw (L .bytes h) (bytes-list f e (convertible-verdict f e k (L .verdict) .0))
 
--- what mining answers for a convertible file, lent 1,024 bytes of scratch and 65,536 of output: the list, or that it is too long
-abbrev pub MinedAs : List ℕ → ℕ → List ℕ → MiningReply → Type 0
-MinedAs f k list (WroteList j) = MinedList f k list j
-MinedAs f k list (RefusedMining x) = listPart (matterOf f) (Convertible k) ≡ refusedLine x
+pub printed-part : (M : Matter) (k : ℕ) → k ≤ 65536 → listPart M (Convertible k) ≡ listText (listOf M)
+printed-part M k h = rw (le-leb k 65536 h)
 
-pub mined-as : (f : List ℕ) (k : ℕ) → verdictCall f ≡ Convertible k → (scratch old : List ℕ) → length scratch ≡ 1024 → length old ≡ 65536
-    → MinedAs f k (miningOutput (miningCall f (length scratch) (length old)) old) (miningReply (miningCall f (length scratch) (length old)))
-mined-as f k v scratch old s o =
-    let e = convertible-accepted f k v in
-    by-test (leb k 65536)
-    (λ t.
-    let l : k ≤ 65536 = leb-true k 65536 t in
-    let m = mining-exact f e k v scratch old (omega arith) (omega arith) in
-    let written : List ℕ = bytesOf (matterOf f) in
-    let kept : List ℕ = drop (length written) old in
-    let is = bytes-list f e (convertible-verdict f e k v .0) in
-    rw (m .answer) (record {
-      bounded = omega (arith, m .size);
-      inside = omega (arith, length-append written kept);
-      bytes = rw (take-append-seam written kept) is;
-      part = rw t;
-    }))
-    (λ t.
-    let l : 65536 < k = leb-false k 65536 t in
-    rw (mining-short f e k v (length scratch) (length old) (omega arith) (omega arith), t))
+pub refused-part : (M : Matter) (k : ℕ) → 65536 < k → listPart M (Convertible k) ≡ refusedLine Output
+refused-part M k h = rw (lt-leb k 65536 h)

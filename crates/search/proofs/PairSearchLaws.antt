@@ -1,6 +1,6 @@
 -- The search for a pair is the word test and the least path: fixed places lead where their symbols do. Assumes nothing.
-use mathlib.Core.Path.{_≡_, refl, ap, _∙_}
-use mathlib.Core.Bool.{Bool, _||_}
+use mathlib.Core.Path.{_≡_, refl, sym, ap, _∙_}
+use mathlib.Core.Bool.{Bool, false, _||_}
 use mathlib.Core.List.{List, [], _∷_, map}
 use mathlib.Core.Option.{none}
 use Prim.Native.Nat.{ℕ, zero, suc, _≤_, _<_}
@@ -10,6 +10,7 @@ use lib.ListN.{length}
 use Rattle.lists.specs.Lists.{anyOf, flatMap}
 use Rattle.masks.specs.promises.Mask.{testBit, withBit}
 use Rattle.masks.specs.declared.Table.{Table}
+use Rattle.masks.proofs.BitLaws.{test-with-other}
 use Rattle.masks.proofs.MaskLaws.{zero-bit}
 use Rattle.rebac.specs.Matter.{Pair, pair}
 use Rattle.rebac.specs.Paths.{has, routes, candidates, pathsOf, leastPath}
@@ -19,7 +20,8 @@ use Rattle.rebac.specs.promises.Marked.{prepend, PartyMarks}
 use Rattle.rebac.proofs.SearchLaws.{long-word, no-empty-word}
 use Rattle.rebac.proofs.MarkedLaws.{marked-has, marked-path}
 use Rattle.search.specs.promises.Search.{maskGraph, formOf, searchFrom}
-use Rattle.search.specs.promises.PairSearch.{tableGraph, searchPair}
+use Rattle.search.specs.promises.PairSearch.{tableGraph, searchPair, PairQuery}
+use Rattle.search.specs.declared.word.Word.{Word}
 use Rattle.search.proofs.SearchLaws.{mark-law}
 use Rattle.rebac.proofs.OptionLaws.{none-of}
 
@@ -45,6 +47,11 @@ module _ (n : ℕ) (t : Table) (first second : ℕ) where
 
   pub search-long : first < n → (xs : List Place) → n ≤ length xs → searchPair n t first second xs ≡ none
   search-long h xs l = none-of _ (search-has xs ∙ long-word (maskGraph n t) (pair first second) xs h l)
+
+-- the second party is not visited yet
+pub unvisited : {n first second : ℕ} {w : Word} → PairQuery n first second w → {visited : ℕ} → visited ≡ withBit 0 first
+    → testBit visited second ≡ false
+unvisited {n} {first} {second} p e = rw e (test-with-other 0 first second (λ q. p .isPair .different (sym q)) ∙ zero-bit second)
 
 -- fixed places lead where their symbols do
 module _ (n : ℕ) (t : Table) where

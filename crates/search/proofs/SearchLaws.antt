@@ -30,7 +30,6 @@ use Rattle.rebac.proofs.MarkedLaws.{marked-least, least-last, least-seen}
 use Rattle.search.specs.Word.{symbolsIn}
 use Rattle.search.specs.promises.WordValues.{Short}
 use Rattle.search.specs.promises.Search.{placeOn, pickPlace, placeAt, maskGraph, formOf, searchFrom, placesFrom, visitAll, FoundAs}
-use Rattle.search.specs.promises.Search.{PartyQuery}
 use Rattle.search.specs.declared.word.Word.{Word}
 use Rattle.search.specs.declared.search.Found.{Found}
 
@@ -102,6 +101,19 @@ module _ (n : ℕ) (t : Table) (visited u target : ℕ) (x : Place) (xs : List P
 
   pub onwards-hit : (v : ℕ) (l : List ℕ) → v < n → through n t visited u target x xs v ≡ some l → onwards v ≡ some l
   onwards-hit v l h e = turn v h ∙ rw e
+
+  -- the candidates before v are passed where none of them leads on, and where none does at all the search finds nothing
+  pub onwards-past : (v : ℕ) → v ≤ n → ((c : ℕ) → c < v → through n t visited u target x xs c ≡ none) → onwards 0 ≡ onwards v
+  onwards-past zero h f = refl
+  onwards-past (suc v) h f =
+      onwards-past v (omega arith) (λ c l. f c (omega arith)) ∙ onwards-skip v (omega arith) (f v (omega arith)) ∙ rw (add-one)
+
+  pub search-none : ((c : ℕ) → c < n → through n t visited u target x xs c ≡ none) → searchFrom n t visited u target (x ∷ xs) ≡ none
+  search-none f = search-start ∙ onwards-past n (omega arith) f ∙ onwards-end n (omega arith)
+
+  pub search-hit : (v : ℕ) (l : List ℕ) → v < n → ((c : ℕ) → c < v → through n t visited u target x xs c ≡ none)
+      → through n t visited u target x xs v ≡ some l → searchFrom n t visited u target (x ∷ xs) ≡ some l
+  search-hit v l h f e = search-start ∙ onwards-past v (omega arith) f ∙ onwards-hit v l h e
 
   -- a candidate that does not lead on
   pub through-visited : (c : ℕ) → testBit visited c ≡ true → through n t visited u target x xs c ≡ none
@@ -177,6 +189,13 @@ places-last {w} s fixed at e =
     places-cons w fixed at (omega arith) (short-fits s)
     ∙ ap (λ (xs : List Place). placeAt w fixed at ∷ xs) (places-end w fixed (at + 1) (omega arith) (short-fits s))
 
+pub places-two : {w : Word} → Short w → (fixed at : ℕ) → at + 2 ≡ w .len
+    → placesFrom w fixed at ≡ placeAt w fixed at ∷ placeAt w fixed (w .len - 1) ∷ []
+places-two {w} s fixed at e =
+    let d : at + 1 ≡ w .len - 1 = omega arith in
+    places-cons w fixed at (omega arith) (short-fits s)
+    ∙ ap (λ (xs : List Place). placeAt w fixed at ∷ xs) (places-last s fixed (at + 1) (omega arith) ∙ rw d)
+
 -- what was found is handed on, one party more in front
 pub found-none : (at visited : ℕ) (o : Option (List ℕ)) (r : Found) → o ≡ none → r .found ≡ false → FoundAs at visited o r
 found-none at visited o r e f = rw e f
@@ -219,16 +238,8 @@ abbrev pub Beyond : Word → ℕ → ℕ → ℕ → ℕ → ℕ → Table → �
 Beyond w fixed at n target visited t v f =
     FoundAs (at + 1) (withBit visited v) (searchFrom n t (withBit visited v) v target (placesFrom w fixed (at + 1))) f
 
--- by a search, or by the last step
-module _ {w : Word} {at n u target : ℕ} (p : PartyQuery w at n u target) (t : Table) (fixed visited v : ℕ) {more : ℕ}
-    (m : more ≡ withBit visited v) {f r : Found} (e : f ≡ r) where
-  pub beyond-search : FoundAs (at + 1) more (searchFrom n t more v target (placesFrom w fixed (at + 1))) r
-      → Beyond w fixed at n target visited t v f
-  beyond-search h = rw (e, ← m) h
-
-  pub beyond-last : at + 2 ≡ w .len
-      → FoundAs (at + 1) more
-      (given (not (testBit more target) && placeOn (placeAt w fixed (at + 1)) (maskAt t v target)) (some (target ∷ []))) r
-      → Beyond w fixed at n target visited t v f
-  beyond-last l h =
-      rw (e, ← m, places-last (p .short) fixed (at + 1) (omega arith), search-last n t more v target (p .end) (placeAt w fixed (at + 1))) h
+-- by a search, or by two steps
+pub beyond-search : (w : Word) (fixed at n target visited : ℕ) (t : Table) (v : ℕ) {more : ℕ} (m : more ≡ withBit visited v) {f r : Found}
+    → f ≡ r → FoundAs (at + 1) more (searchFrom n t more v target (placesFrom w fixed (at + 1))) r
+    → Beyond w fixed at n target visited t v f
+beyond-search w fixed at n target visited t v m e h = rw (e, ← m) h

@@ -5,20 +5,20 @@ use mathlib.Core.List.{List, _∷_}
 use mathlib.Core.Option.{Option, none}
 use Prim.Native.Nat.{ℕ, _+_, _≤_, _<_}
 use native.Mathlib.Omega.{arith}
-use lib.ListN.{set}
+use lib.ListN.{getD, set}
 use Rattle.lists.proofs.Cases.{both}
 use Rattle.masks.specs.promises.Mask.{testBit, withBit}
-use Rattle.masks.specs.promises.Table.{maskAt}
+use Rattle.masks.specs.promises.Table.{noRow, maskAt}
 use Rattle.masks.specs.declared.Table.{Table}
 use Rattle.rebac.specs.promises.Marked.{prepend}
 use Rattle.search.specs.promises.Search.{placeOn, placeAt, placesFrom, searchFrom, FoundAs, PartyQuery}
-use Rattle.search.specs.promises.Walk.{Covers}
+use Rattle.search.specs.promises.Walk.{FirstStep, Covers}
 use Rattle.search.specs.declared.word.Word.{Word}
 use Rattle.search.specs.declared.search.Found.{Found}
-use Rattle.search.proofs.SearchLaws.{through, onwards, search-start, onwards-end, onwards-skip, onwards-hit}
+use Rattle.search.proofs.SearchLaws.{through, onwards, search-start, search-none, onwards-end, onwards-skip, onwards-hit}
 use Rattle.search.proofs.SearchLaws.{through-visited, through-not, through-lost, through-on, through-target, places-cons}
 use Rattle.search.proofs.SearchLaws.{short-fits, found-not, found-some, found-onto, Beyond}
-use Rattle.search.proofs.WalkLaws.{ones-bit}
+use Rattle.masks.proofs.BitLaws.{ones-bit}
 
 -- what candidate v gives, and what the candidates from v on give
 abbrev pub leads : Word → ℕ → ℕ → ℕ → ℕ → ℕ → ℕ → Table → ℕ → Option (List ℕ)
@@ -68,7 +68,17 @@ module _ {w : Word} {fixed at n u target visited : ℕ} {t : Table} {onward v : 
   turn-lost l e off =
       through-lost n t visited u target (placeAt w fixed at) (placesFrom w fixed (at + 1)) v (h .covers v l e visited (λ d k. k) off)
 
--- nor does the target, while places are left
+-- where no candidate may stand at the place there is no path
+pub nowhere : {w : Word} {at n u target : ℕ} → PartyQuery w at n u target → (fixed visited : ℕ) (t : Table) {r : ℕ}
+    → FirstStep (placeAt w fixed at) (getD (t .rows) u noRow) 4294967295 n r → n ≤ r
+    → searchFrom n t visited u target (placesFrom w fixed at) ≡ none
+nowhere {w} {at} {n} {u} {target} p fixed visited t f l =
+    ap (searchFrom n t visited u target) (places-cons w fixed at (p .place) (short-fits (p .short)))
+    ∙ search-none n t visited u target (placeAt w fixed at) (placesFrom w fixed (at + 1))
+    (λ c h. through-not n t visited u target (placeAt w fixed at) (placesFrom w fixed (at + 1)) c
+    (f .before c h (omega arith) (ones-bit 32 c (omega (arith, p .parties)))))
+
+-- the target leads nowhere, while places are left
 pub target-nowhere : {w : Word} {at n u target : ℕ} → PartyQuery w at n u target → at + 1 < w .len → (fixed visited : ℕ) (t : Table)
     → leads w fixed at n u target visited t target ≡ none
 target-nowhere {w} {at} {n} {u} {target} p l fixed visited t =

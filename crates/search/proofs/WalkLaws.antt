@@ -4,24 +4,25 @@ use mathlib.Core.Bool.{true, false}
 use mathlib.Core.List.{List, [], _∷_}
 use mathlib.Core.Logic.{by-cases}
 use mathlib.Core.Option.{none}
-use Prim.Native.Nat.{ℕ, zero, suc, _+_, _-_, _*_, _/_, _%_, _^_, _≤_, _<_}
-use native.Mathlib.Nat.{pow-suc, div-one}
-use native.Mathlib.Decide.{ℕ-discrete}
+use Prim.Native.Nat.{ℕ, zero, suc, _+_, _-_, _/_, _%_, _^_, _≤_, _<_}
+use native.Mathlib.Nat.{div-one}
+use native.Mathlib.Decide.{decLt, ℕ-discrete}
 use native.Mathlib.Omega.{arith}
 use lib.ListN.{getD}
 use lib.Count.{trailingZeros, under}
-use lib.Pow.{pow-pos, ones-lt, ones-split, high, shr-shr}
-use borrow.Author.Tests.{eq-eqb, ne-eqb}
+use lib.Pow.{shr-shr}
+use borrow.Author.Tests.{ne-eqb}
 use Rattle.lists.proofs.Cases.{by-test, both}
 use Rattle.masks.specs.promises.Mask.{testBit, withBit}
 use Rattle.masks.specs.promises.Table.{noRow}
+use Rattle.masks.specs.declared.Row.{Row}
 use Rattle.masks.specs.declared.Table.{Table}
 use Rattle.masks.proofs.BitLaws.{test-with-same, test-with-other}
 use Rattle.rebac.specs.promises.Forms.{Place}
 use Rattle.rebac.specs.promises.Marked.{leastMarked}
 use Rattle.search.specs.promises.Search.{searchFrom}
 use Rattle.search.specs.promises.Walk.{NoStep, Within, Covers}
-use Rattle.search.proofs.SearchLaws.{through, onwards, search-start, search-passed, onwards-end, onwards-skip}
+use Rattle.search.proofs.SearchLaws.{search-passed, search-none}
 use Rattle.search.proofs.SearchLaws.{through-visited, through-not, through-lost}
 
 -- one party more is passed
@@ -30,23 +31,15 @@ within-with visited more k h c e =
     by-cases (ℕ-discrete c k) (λ q. rw q (test-with-same more k)) (λ q. test-with-other more k c q ∙ h c e)
 
 module _ (n : ℕ) (t : Table) (target : ℕ) (xs : List Place) (visited : ℕ) where
-  -- where no candidate leads on the search finds nothing
-  none-through : (more u : ℕ) (x : Place) → ((c : ℕ) → c < n → through n t more u target x xs c ≡ none)
-      → (k v : ℕ) → v + k ≡ n → onwards n t more u target x xs v ≡ none
-  none-through more u x h zero v e = onwards-end n t more u target x xs v (omega arith)
-  none-through more u x h (suc k) v e =
-      onwards-skip n t more u target x xs v (omega arith) (h v (omega arith)) ∙ none-through more u x h k (v + 1) (omega arith)
-
   pub no-step : (mask u : ℕ) (x : Place) → Covers n t target xs visited mask n → NoStep x (getD (t .rows) u noRow) mask n n
       → (more : ℕ) → Within visited more → searchFrom n t more u target (x ∷ xs) ≡ none
   no-step mask u x h s more p =
-      search-start n t more u target x xs
-      ∙ none-through more u x
+      search-none n t more u target x xs
       (λ c b. by-test (testBit more c)
       (λ o. through-visited n t more u target x xs c o)
       (λ o. by-test (testBit mask c)
       (λ e. through-not n t more u target x xs c (s c b b e))
-      (λ e. through-lost n t more u target x xs c (h c b e more p o)))) n 0 (omega arith)
+      (λ e. through-lost n t more u target x xs c (h c b e more p o))))
 
   -- one party more, in the mask or with no path onward
   pub covers-with : (mask k : ℕ) → Covers n t target xs visited mask k → Covers n t target xs visited (withBit mask k) (k + 1)
@@ -73,19 +66,6 @@ pub target-lost : (n : ℕ) (t : Table) (target : ℕ) (x : Place) (xs : List Pl
 target-lost n t target x xs h visited =
     search-passed n t (withBit visited target) target target h (test-with-same visited target) x xs
 
--- a mask of w ones has each place below w
-pub ones-bit : (w k : ℕ) → k < w → testBit (2 ^ w - 1) k ≡ true
-unfolding testBit
-ones-bit w k h =
-    let d : w ≡ suc (w - k - 1) + k = omega arith in
-    let p : 0 < 2 ^ (w - k - 1) = pow-pos (w - k - 1) in
-    let s : 2 ^ suc (w - k - 1) ≡ 2 ^ (w - k - 1) * 2 = pow-suc 2 (w - k - 1) in
-    let q : (2 ^ w - 1) / 2 ^ k ≡ 2 ^ suc (w - k - 1) - 1 =
-    ap (λ (x : ℕ). (2 ^ x - 1) / 2 ^ k) d
-    ∙ ap (λ (x : ℕ). x / 2 ^ k) (ones-split (suc (w - k - 1)) k)
-    ∙ high (2 ^ suc (w - k - 1) - 1) k (ones-lt k) in
-    eq-eqb _ 1 (ap (λ (x : ℕ). x % 2) q ∙ omega arith)
-
 -- the places of a mask below its trailing zeros are clear
 zeros-off : (k n i : ℕ) → i < trailingZeros k n → n / 2 ^ i % 2 ≡ 0
 unfolding trailingZeros
@@ -98,11 +78,36 @@ zeros-off (suc k) n i h = go (n % 2) refl i h (λ j. zeros-off k (n / 2) j)
     go zero e (suc i) l ih = ap (λ (x : ℕ). x % 2) (ap (λ (j : ℕ). n / 2 ^ j) (omega arith) ∙ sym (shr-shr n 1 i)) ∙ ih i (omega arith)
     go (suc r) e i l ih = absurd (omega arith)
 
-pub skipped-off : (k mask c j : ℕ) → c ≤ j → j < c + trailingZeros k (mask / 2 ^ c) → testBit mask j ≡ false
+skipped-off : (k mask c j : ℕ) → c ≤ j → j < c + trailingZeros k (mask / 2 ^ c) → testBit mask j ≡ false
 unfolding testBit
 skipped-off k mask c j l h =
     let d : c + (j - c) ≡ j = omega arith in
     let z : mask / 2 ^ j % 2 ≡ 0 =
     ap (λ (x : ℕ). x % 2) (ap (λ (i : ℕ). mask / 2 ^ i) (sym d) ∙ sym (shr-shr mask c (j - c)))
     ∙ zeros-off k (mask / 2 ^ c) (j - c) (omega arith) in
+    rw z
+
+pub steps-past : (k : ℕ) (x : Place) (row : Row) (mask n c : ℕ) → NoStep x row mask n c
+    → NoStep x row mask n (c + trailingZeros k (mask / 2 ^ c))
+steps-past k x row mask n c f j h l e =
+    by-cases (decLt j c) (λ i. f j h i e) (λ i. both e (skipped-off k mask c j (omega arith) l))
+
+-- the place that they lead to is set
+zeros-on : (k n : ℕ) → trailingZeros k n < k → n / 2 ^ trailingZeros k n % 2 ≡ 1
+unfolding trailingZeros
+zeros-on zero n h = absurd (omega arith)
+zeros-on (suc k) n h = go (n % 2) refl h (zeros-on k (n / 2))
+  where
+    go : (r : ℕ) → n % 2 ≡ r → under r (trailingZeros k (n / 2)) < suc k
+        → (trailingZeros k (n / 2) < k → n / 2 / 2 ^ trailingZeros k (n / 2) % 2 ≡ 1) → n / 2 ^ under r (trailingZeros k (n / 2)) % 2 ≡ 1
+    go zero e l ih =
+        let z : ℕ = trailingZeros k (n / 2) in
+        ap (λ (x : ℕ). x % 2) (ap (λ (j : ℕ). n / 2 ^ j) (omega arith) ∙ sym (shr-shr n 1 z)) ∙ ih (omega arith)
+    go (suc r) e l ih = rw div-one (omega (arith, e))
+
+pub come-on : (k mask c : ℕ) → trailingZeros k (mask / 2 ^ c) < k → testBit mask (c + trailingZeros k (mask / 2 ^ c)) ≡ true
+unfolding testBit
+come-on k mask c h =
+    let z : mask / 2 ^ (c + trailingZeros k (mask / 2 ^ c)) % 2 ≡ 1 =
+    ap (λ (x : ℕ). x % 2) (sym (shr-shr mask c (trailingZeros k (mask / 2 ^ c)))) ∙ zeros-on k (mask / 2 ^ c) h in
     rw z

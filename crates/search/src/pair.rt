@@ -7,8 +7,8 @@ ghost use Rattle.search.specs.Word.{symbolsIn};
 ghost use Rattle.search.specs.promises.Search.{formOf, FoundAs};
 ghost use Rattle.search.specs.promises.PairSearch.{PairQuery, tableGraph, searchPair};
 use crate::search::Found;
+use crate::search::candidate_search;
 use crate::search::none;
-use crate::search::party_search;
 use crate::word::Word;
 use masks::Table;
 
@@ -24,7 +24,7 @@ pub fn search_pair(g: Table, n: usize, first: usize, second: usize, w: Word, fix
     if n <= len {
         return none(0);
     }
-    party_search(
+    candidate_search(
         g,
         w,
         fixed,
@@ -33,6 +33,7 @@ pub fn search_pair(g: Table, n: usize, first: usize, second: usize, w: Word, fix
         first,
         second,
         masks::with(0, first as u32),
+        0,
     )
 }
 

@@ -1,20 +1,21 @@
 // Party search and candidate search call each other. The first `fixed` symbols of a word are fixed, and each later one is a floor.
 ghost use mathlib.Core.Path.{_≡_};
-ghost use mathlib.Core.Bool.{false, not, _&&_};
-ghost use mathlib.Core.List.{_∷_, []};
-ghost use mathlib.Core.Option.{some};
-ghost use Prim.Native.Nat.{_+_, _<_};
-ghost use Rattle.masks.specs.promises.Mask.{testBit};
-ghost use Rattle.rebac.specs.Options.{given};
+ghost use mathlib.Core.Bool.{false};
+ghost use Prim.Native.Nat.{_<_};
 ghost use Rattle.search.specs.promises.WordValues.{Short};
-ghost use Rattle.search.specs.promises.Search.{placeAt, placeOn, placesFrom, searchFrom, FoundAs, PartyQuery, LastStepQuery};
+ghost use Rattle.search.specs.promises.Search.{placeAt, placeOn, placesFrom, searchFrom, FoundAs};
+ghost use Rattle.search.specs.promises.Last.{SearchQuery};
+use crate::last::last_parties;
+use crate::last::last_step;
+use crate::last::two_steps;
+use crate::walk::first_step;
 use crate::walk::walkable;
 use crate::word::Word;
 use limits::MOST_PARTIES;
 use masks::Table;
 
 // What a search found: whether there is a path, its parties as a mask, and its parties in order from place 0.
-// Where there is none, `tried` says how many parties the search entered, short of the last two places.
+// Where there is none, `tried` says how many parties the search entered, short of the last three places.
 pub struct Found {
     pub found: bool,
     pub visited: u32,
@@ -45,27 +46,6 @@ pub fn allows(w: Word, fixed: usize, at: usize, mask: u32) -> bool
     mask >> s != 0
 }
 
-// The last step, to the target itself.
-fn last_step(w: Word, fixed: usize, at: usize, mask: u32, target: u32, visited: u32) -> Found
-    requires { ⌜ LastStepQuery w at target ⌝ }
-    ensures { λ r. ⌜ FoundAs at visited
-        (given (not (testBit visited target) && placeOn (placeAt w fixed at) mask) (some (target ∷ []))) r ⌝ }
-{
-    if (visited >> target) & 1 == 0 {
-        if allows(w, fixed, at, mask) {
-            let mut parties = [0u8; MOST_PARTIES];
-            parties[at + 1] = target as u8;
-            return Found {
-                found: true,
-                visited: visited | (1u32 << target),
-                parties,
-                tried: 0,
-            };
-        }
-    }
-    none(0)
-}
-
 // From party u along the places from `at` on.
 pub fn party_search(
     g: Table,
@@ -76,19 +56,16 @@ pub fn party_search(
     u: usize,
     target: usize,
     visited: u32,
+    ends: u32,
 ) -> Found
-    requires { ⌜ PartyQuery w at n u target ⌝ }
+    requires { ⌜ SearchQuery w fixed at n u target visited ends g ⌝ }
     ensures { λ r. ⌜ FoundAs at visited (searchFrom n g visited u target (placesFrom w fixed at)) r ⌝ }
 {
-    let len = w.len;
-    if at + 1 < len {
-        return candidate_search(g, w, fixed, at, n, u, target, visited);
-    }
-    let row = g.rows[u];
-    last_step(w, fixed, at, row.masks[target], target as u32, visited)
+    candidate_search(g, w, fixed, at, n, u, target, visited, ends)
 }
 
 // The candidates after party u in ascending order, and from each to the party beyond. The target ends a path, so it is no candidate here.
+// One or two places left are last steps. At place 0, unless no candidate may stand there, the parties with a last step are gathered.
 // Once those that failed have cost 16 parties for each place left, beside which a look at walks is cheap, a candidate with no walk
 // onward is skipped.
 pub fn candidate_search(
@@ -100,12 +77,26 @@ pub fn candidate_search(
     u: usize,
     target: usize,
     visited: u32,
+    ends: u32,
 ) -> Found
-    requires { ⌜ (at + 1 < w .len) × PartyQuery w at n u target ⌝ }
+    requires { ⌜ SearchQuery w fixed at n u target visited ends g ⌝ }
     ensures { λ r. ⌜ FoundAs at visited (searchFrom n g visited u target (placesFrom w fixed at)) r ⌝ }
 {
     let len = w.len;
     let row = g.rows[u];
+    if at + 1 == len {
+        return last_step(w, fixed, at, row.masks[target], target as u32, visited);
+    }
+    let mut last = ends;
+    if at == 0 {
+        if n <= first_step(row, w, fixed, at, n, 4294967295) {
+            return none(1);
+        }
+        last = last_parties(g, w, fixed, n, target);
+    }
+    if at + 2 == len {
+        return two_steps(row, w, fixed, at, n, target, visited, last);
+    }
     // every party, until walks were looked at
     let mut onward: u32 = 4294967295;
     let mut tried: u32 = 1;
@@ -118,24 +109,16 @@ pub fn candidate_search(
                     if allows(w, fixed, at, row.masks[v]) {
                         let more = visited | (1u32 << c);
                         let mut f = none(0);
-                        if at + 2 < len {
-                            f = party_search(g, w, fixed, at + 1, n, v, target, more);
+                        if at + 3 < len {
+                            f = party_search(g, w, fixed, at + 1, n, v, target, more, last);
                         } else {
-                            let beyond = g.rows[v];
-                            f = last_step(
-                                w,
-                                fixed,
-                                at + 1,
-                                beyond.masks[target],
-                                target as u32,
-                                more,
-                            );
+                            f = two_steps(g.rows[v], w, fixed, at + 1, n, target, more, last);
                         }
                         if f.found {
                             f.parties[at + 1] = v as u8;
                             return f;
                         }
-                        if at + 2 < len {
+                        if at + 3 < len {
                             tried = std::num::wrapping_add_u32(tried, f.tried);
                             if onward == 4294967295 {
                                 if (len - at) * 16 < tried as usize {

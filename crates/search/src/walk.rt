@@ -1,30 +1,29 @@
 // Walks past the visited parties, in which the others may repeat: where the rest of a word cannot be walked to the target it has no
 // path there.
-ghost use mathlib.Core.Path.{_≡_};
-ghost use mathlib.Core.Bool.{false};
 ghost use Rattle.search.specs.promises.Search.{placeAt, placesFrom};
-ghost use Rattle.search.specs.promises.Walk.{NoStep, Covers, StepQuery, PartiesQuery, WalkQuery};
+ghost use Rattle.search.specs.promises.Walk.{FirstStep, Covers, StepQuery, PartiesQuery, WalkQuery};
 use crate::search::allows;
 use crate::word::Word;
 use masks::Row;
 use masks::Table;
 
-// Whether the party of this row has a step at place `at` to a candidate of the mask. Each turn goes on to the mask's next candidate.
-fn steps(row: Row, w: Word, fixed: usize, at: usize, n: usize, mask: u32) -> bool
+// The first candidate of the mask to which the party of this row has a step at place `at`; n where there is none. Each turn goes on to the
+// mask's next candidate.
+pub fn first_step(row: Row, w: Word, fixed: usize, at: usize, n: usize, mask: u32) -> usize
     requires { ⌜ StepQuery w at n ⌝ }
-    ensures { λ r. ⌜ (r ≡ false → NoStep (placeAt w fixed at) row mask n n) ⌝ }
+    ensures { λ r. ⌜ FirstStep (placeAt w fixed at) row mask n r ⌝ }
 {
     let mut c: usize = 0;
     while c < n {
         c += u32::trailing_zeros(mask >> (c as u32)) as usize;
         if c < n {
             if allows(w, fixed, at, row.masks[c]) {
-                return true;
+                return c;
             }
         }
         c += 1;
     }
-    false
+    n
 }
 
 // The parties with a step at place `at` to a party of the mask. The visited ones and the target, which ends a path, are left out.
@@ -47,7 +46,7 @@ fn parties_before(
         if v != target {
             let c = v as u32;
             if (visited >> c) & 1 == 0 {
-                if steps(g.rows[v], w, fixed, at, n, mask) {
+                if first_step(g.rows[v], w, fixed, at, n, mask) < n {
                     parties = masks::with(parties, c);
                 }
             }
@@ -58,6 +57,7 @@ fn parties_before(
 }
 
 // The parties from which the places from `from` on can be walked to the target past the visited ones: backwards from the word's end.
+// None where fewer parties than places stand on such walks, since a path has another party at each.
 pub fn walkable(
     g: Table,
     w: Word,
@@ -71,10 +71,15 @@ pub fn walkable(
     ensures { λ r. ⌜ Covers n g target (placesFrom w fixed from) visited r n ⌝ }
 {
     let mut mask = masks::with(0, target as u32);
+    let mut all: u32 = 0;
     let mut at = w.len;
     while from < at {
         at -= 1;
         mask = parties_before(g, w, fixed, at, n, target, visited, mask);
+        all = all | mask;
+    }
+    if u32::count_ones(all) < (w.len - from) as u32 {
+        return 0;
     }
     mask
 }

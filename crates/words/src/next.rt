@@ -22,7 +22,7 @@ pub struct Next {
     pub word: Word,
 }
 
-fn nothing(w: Word) -> Next
+pub fn nothing(w: Word) -> Next
     ensures { λ r. ⌜ (r .found ≡ false) × (r .word ≡ w) ⌝ }
 {
     Next {
@@ -32,7 +32,7 @@ fn nothing(w: Word) -> Next
 }
 
 // The word with another symbol at a place.
-fn put_symbol(mut w: Word, at: usize, s: u8) -> Word
+pub fn put_symbol(mut w: Word, at: usize, s: u8) -> Word
     requires { ⌜ SymbolQuery w at s ⌝ }
     ensures { λ r. ⌜ SymbolPut w at s r ⌝ }
 {
@@ -75,7 +75,7 @@ fn fill_from(g: Table, n: usize, first: usize, second: usize, w: Word, from: usi
 }
 
 // The least word that has the places before `at` as they stand, a symbol at `at` that is no less, and any symbols after.
-fn complete_from(g: Table, n: usize, first: usize, second: usize, w: Word, at: usize) -> Next
+pub fn complete_from(g: Table, n: usize, first: usize, second: usize, w: Word, at: usize) -> Next
     requires { ⌜ PairQuery n first second w × (at < w .len) ⌝ }
     ensures { λ r. ⌜ Completed n g first second w at (λ s. s) r ⌝ }
 {
@@ -103,7 +103,7 @@ fn raise_at(g: Table, n: usize, first: usize, second: usize, w: Word, at: usize)
 }
 
 // The least word after w of its own length, from the last place down.
-fn next_same_length(g: Table, n: usize, first: usize, second: usize, w: Word) -> Next
+pub fn next_same_length(g: Table, n: usize, first: usize, second: usize, w: Word) -> Next
     requires { ⌜ PairQuery n first second w ⌝ }
     ensures { λ r. ⌜ NextBy n g first second (λ al G p. nextSameLength al G p [] (symbolsIn w)) r ⌝ }
 {
@@ -121,7 +121,7 @@ fn next_same_length(g: Table, n: usize, first: usize, second: usize, w: Word) ->
 }
 
 // A word of zeros.
-fn zeros(len: usize) -> Word
+pub fn zeros(len: usize) -> Word
     requires { ⌜ len ≤ wordCapacity ⌝ }
     ensures { λ r. ⌜ Short r × ((r .len ≡ len) × (symbolsIn r ≡ replicate len 0)) ⌝ }
 {

@@ -18,6 +18,13 @@ use Rattle.search.specs.declared.word.Word.{Word}
 abbrev pub NoStep : Place → Row → ℕ → ℕ → ℕ → Type 0
 NoStep x row mask n k = (c : ℕ) → c < n → c < k → testBit mask c ≡ true → placeOn x (maskIn row c) ≡ false
 
+-- the first candidate of the mask below n that may follow at the place, or none
+pub record FirstStep (x : Place) (row : Row) (mask n r : ℕ) : Type 0 where
+  pub within : r ≤ n
+  pub before : NoStep x row mask n r
+  pub on : r < n → testBit mask r ≡ true
+  pub step : r < n → placeOn x (maskIn row r) ≡ true
+
 -- the second mask has every party of the first
 abbrev pub Within : ℕ → ℕ → Type 0
 Within visited more = (c : ℕ) → testBit visited c ≡ true → testBit more c ≡ true

@@ -19,9 +19,12 @@ use Rattle.rule_bytes.specs.ListBytes.{encodeTerm}
 use Rattle.fields.specs.promises.Writing.{put}
 use Rattle.fields.proofs.NumberLaws.{u16-size}
 use Rattle.fields.proofs.PutLaws.{put-length, put-over}
-use Rattle.mining.specs.promises.Building.{problemIn, firstBytes}
+use Rattle.mining.specs.promises.Building.{problemIn, firstBytes, firstTerm, CoversTerm}
+use Rattle.mining.proofs.ArchiveLaws.{shown-bounded}
 use Rattle.mining.proofs.LackedLaws.{found-some}
-use Rattle.mining.proofs.FirstLaws.{no-words, first-none, first-full, first-bytes, first-size, first-part, outcome-over}
+use Rattle.mining.proofs.FirstLaws.{no-words, first-none, first-full, first-bytes, first-term, first-size, first-part}
+use Rattle.mining.proofs.FirstLaws.{outcome-over}
+use Rattle.mining.proofs.CoverLaws.{covers-one}
 use Rattle.mining.proofs.build.build_term.Statement.{statement}
 use Rattle.mining.proofs.build.build_term.Tie as tie
 
@@ -100,15 +103,29 @@ written c =
     c .add-word .ensures (old d) [] refl (omega (arith, ap length no-words, u16-size 0)) (k .0) (sym (k .1))
     ∙ ap (put (old d) (given d .args .at)) (sym (first-bytes (given d .pre .shown .1) (ownPair d) (first d)))
 
+walk-pairs-requires : tie.Need-walk-pairs-requires
+walk-pairs-requires c κs =
+    let d = at-word (c .before .before) in
+    (shown-bounded (given d .pre .shown), d .before .before .first-word .ensures .0)
+
 add-extend-term : tie.Need-add-extend-term
-add-extend-term c = omega (arith, room (at-word (c .before .before .before)))
+add-extend-term c = omega (arith, room (at-word (c .before .before .before .before)))
 
 add-extend-term-2 : tie.Need-add-extend-term-2
-add-extend-term-2 c = omega (arith, room (at-word (c .before .before .before .before)))
+add-extend-term-2 c = omega (arith, room (at-word (c .before .before .before .before .before)))
+
+-- the pairs that can walk it cover it
+covered : (c : tie.After-walk-pairs) → let d = at-word (c .before .before .before) in
+    CoversTerm (given d .args .a) (firstTerm (given d .args .a) (ownPair d)) (c .walk-pairs .result)
+covered c =
+    let d = at-word (c .before .before .before) in
+    let a = given d .args .a in
+    rw (first-term (given d .pre .shown .1) (ownPair d) (first d))
+    (covers-one a (symbolsIn (word-of d)) (c .walk-pairs .result) (c .walk-pairs .ensures))
 
 extend-term-requires : tie.Need-extend-term-requires
 extend-term-requires c κs =
-    let w = c .before .before .before .before in
+    let w = c .before .before .before .before .before in
     let d = at-word w in
     let x = given d in
     let at = x .args .at in
@@ -123,6 +140,7 @@ extend-term-requires c κs =
       ends = omega (arith, size d);
       room = omega (arith, same, x .pre .room);
       stands = rw q (put-over (old d) at F F (omega (arith, x .pre .room)) (omega arith));
+      covers = covered (c .before .before);
     }
 
 same-length : tie.Need-same-length
@@ -130,7 +148,7 @@ same-length c = search needs
 
 returns-2 : tie.Need-returns-2
 returns-2 c =
-    let w = c .before .before .before .before .before .before .before in
+    let w = c .before .before .before .before .before .before .before .before in
     let d = at-word w in
     let x = given d in
     outcome-over (x .args .a) (ownPair d) (x .args .at) (old d) _ (judge (problemIn (x .args .a)) (ownPair d)) _
@@ -146,6 +164,7 @@ build-term-spec =
     put-u16-requires
     add-add-word
     add-word-requires
+    walk-pairs-requires
     add-extend-term
     add-extend-term-2
     extend-term-requires

@@ -1,15 +1,9 @@
 -- The word after the empty one.
-use mathlib.Core.Path.{refl}
 use native.Mathlib.Omega.{arith}
-use lib.ListN.{replicate}
-use Rattle.search.specs.promises.WordValues.{Short}
 use Rattle.paths.proofs.CallLaws.{query-in, next-shown}
-use Rattle.mining.proofs.LackedLaws.{longest-in}
+use Rattle.mining.proofs.LackedLaws.{empty-short, longest-in}
 use Rattle.mining.proofs.lacked.first_word.Statement.{statement}
 use Rattle.mining.proofs.lacked.first_word.Tie as tie
-
-empty-short : Short (record { len = 0; symbols = replicate 31 0 })
-empty-short = record { len = omega arith; full = refl; symbols = λ i h. absurd (omega (arith, h)) }
 
 next-word-requires : tie.Need-next-word-requires
 next-word-requires c κs =

@@ -1,5 +1,5 @@
 -- A word of no symbols and one of n or more have no path; any other is searched from place 0.
-use mathlib.Core.Path.{_≡_, ap, _∙_}
+use mathlib.Core.Path.{_≡_, refl, ap, _∙_}
 use mathlib.Core.List.{List, []}
 use Prim.Native.Nat.{ℕ, _-_}
 use native.Mathlib.Omega.{arith}
@@ -9,7 +9,7 @@ use Rattle.search.specs.Word.{symbolsIn}
 use Rattle.search.specs.promises.Search.{formOf}
 use Rattle.search.specs.promises.PairSearch.{searchPair}
 use Rattle.search.proofs.SearchLaws.{found-none, symbols-length, short-fits}
-use Rattle.search.proofs.PairSearchLaws.{search-empty, search-long, form-length}
+use Rattle.search.proofs.PairSearchLaws.{search-empty, search-long, form-length, unvisited}
 use borrow.Author.Needs.{needs}
 use Rattle.search.proofs.pair.search_pair.Statement.{statement}
 use Rattle.search.proofs.pair.search_pair.Tie as tie
@@ -44,14 +44,26 @@ cast-with c = search needs
 with-requires : tie.Need-with-requires
 with-requires c κs = search needs
 
-party-search-requires : tie.Need-party-search-requires
-party-search-requires c κs = search needs
+candidate-search-requires : tie.Need-candidate-search-requires
+candidate-search-requires c κs =
+    let p = c .before .before .before .pre in
+    record {
+      query = record {
+        short = p .short;
+        place = omega (arith, c .before .before .if1 .left);
+        parties = p .parties;
+        start = p .isPair .first;
+        end = p .isPair .second;
+      };
+      unvisited = unvisited p (c .with .ensures);
+      last = λ z. absurd (z refl);
+    }
 
 returns-3 : tie.Need-returns-3
 returns-3 c =
     let fixed : ℕ = c .before .before .before .before .args .fixed in
     let z : fixed - 0 ≡ fixed = omega arith in
-    rw (c .before .with .ensures, z) at (c .party-search .ensures)
+    rw (c .before .with .ensures, z) at (c .candidate-search .ensures)
 
 pub search-pair-spec : {M : Type 1} → statement M
 search-pair-spec =
@@ -63,5 +75,5 @@ search-pair-spec =
     returns-2
     cast-with
     with-requires
-    party-search-requires
+    candidate-search-requires
     returns-3)

@@ -32,14 +32,14 @@ cast-c c = search needs
 shr-if2 : tie.Need-shr-if2 Inv-loop μ-loop
 shr-if2 c = search needs
 
-mul-steps : tie.Need-mul-steps Inv-loop μ-loop
-mul-steps c = search needs
+mul-first-step : tie.Need-mul-first-step Inv-loop μ-loop
+mul-first-step c = search needs
 
-element-copy-out-steps : tie.Need-element-copy-out-steps Inv-loop μ-loop
-element-copy-out-steps c = search needs
+element-copy-out-first-step : tie.Need-element-copy-out-first-step Inv-loop μ-loop
+element-copy-out-first-step c = search needs
 
-steps-requires : tie.Need-steps-requires Inv-loop μ-loop
-steps-requires c κs = search needs
+first-step-requires : tie.Need-first-step-requires Inv-loop μ-loop
+first-step-requires c κs = search needs
 
 with-requires : tie.Need-with-requires Inv-loop μ-loop
 with-requires c κs = search needs
@@ -66,7 +66,8 @@ loop-again c =
       omega (arith, c .before .loop-test .taken),
       ⊎-elim (λ y. rw (y .6 ∙ y .5 .ensures) with)
           (⊎-elim
-          (λ y. rw (y .5) (without (λ more m o. rw q (lost (y .3 .ensures (y .4 .left)) _ (within-with (a .visited) more (l .v) m)))))
+          (λ y. rw (y .5) (without (λ more m o. rw q
+          (lost (λ j k i. y .3 .ensures .before j k (omega (arith, y .4 .left))) _ (within-with (a .visited) more (l .v) m)))))
           (⊎-elim
           (λ y. rw (y .2) (without (λ more m o. both (m (l .v) (test-on (a .visited) (l .v) (y .1 .left))) o)))
           (λ y. rw (y .1) (without (λ more m o. rw (y .0 .left, q) (target-lost (a .n) (a .t1) (a .target) s ys (p .end) more))))))
@@ -85,9 +86,9 @@ parties-before-spec =
     loop-holds
     cast-c
     shr-if2
-    mul-steps
-    element-copy-out-steps
-    steps-requires
+    mul-first-step
+    element-copy-out-first-step
+    first-step-requires
     with-requires
     add-v
     loop-less

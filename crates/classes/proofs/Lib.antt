@@ -1,0 +1,7 @@
+pub mod TableLaws
+pub mod OpenLaws
+pub mod PrefixLaws
+pub mod SeekLaws
+pub mod LengthLaws
+pub mod ByWordsLaws
+pub mod ClassLaws
