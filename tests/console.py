@@ -32,6 +32,15 @@ def build(archive, folder):
     return shared
 
 
+def built(archive, folder, tally):
+    """The same; None, and a fault, where it can't be made."""
+    try:
+        return build(archive, folder)
+    except (OSError, subprocess.SubprocessError) as error:
+        tally.fault("no shared object: %s" % error)
+        return None
+
+
 # ------------------------------------------------------------------- replies
 
 def unpack(number, kinds):

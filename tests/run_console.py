@@ -282,10 +282,8 @@ def main(arguments):
     signal.alarm(SECONDS_OF_RUN)
     archive, binary = map(os.path.abspath, arguments[1:])
     with tempfile.TemporaryDirectory() as folder:
-        try:
-            shared = console.build(archive, folder)
-        except (OSError, subprocess.SubprocessError) as error:
-            tally.fault("no shared object: %s" % error)
+        shared = console.built(archive, folder, tally)
+        if shared is None:
             return tally.close()
         run = Run(console.Console(shared, random.Random(606)), random.Random(707), tally)
         hold_packed(run)

@@ -151,10 +151,8 @@ def main(arguments):
     archive, binary = map(os.path.abspath, arguments[1:3])
     account = Counter()
     with tempfile.TemporaryDirectory() as folder:
-        try:
-            shared = console.build(archive, folder)
-        except (OSError, subprocess.SubprocessError) as error:
-            tally.fault("no shared object: %s" % error)
+        shared = console.built(archive, folder, tally)
+        if shared is None:
             return tally.close()
         functions = console.Console(shared, random.Random(616))
         rng = random.Random(717)

@@ -2,7 +2,7 @@
 -- these letters and then letters below the classes. On a path of the first pair each letter has a class, and a path of the second
 -- along the classes is one along the letters. By induction on the letters. Assumes nothing.
 use mathlib.Core.Path.{_≡_, refl, ap, _∙_}
-use mathlib.Core.Bool.{Bool, true, false}
+use mathlib.Core.Bool.{true, false}
 use mathlib.Core.List.{List, [], _∷_, _++_, map, append-assoc, append-nil, List·Memᴰ}
 use mathlib.Core.List.{List·Memᴰ·head, List·Memᴰ·tail, List·Memᴰ·not-nil}
 use mathlib.Core.Option.{none}
@@ -16,10 +16,11 @@ use Rattle.lists.proofs.Pointwise.{map-append}
 use Rattle.rebac.specs.Matter.{Pair}
 use Rattle.rebac.specs.Words.{wordsOfLength}
 use Rattle.rebac.specs.Paths.{Graph, Walk, has}
-use Rattle.rebac.specs.promises.Options.{orElse, firstSome}
+use Rattle.rebac.specs.promises.Options.{firstSome}
 use Rattle.rebac.specs.promises.Telling.{tells, firstTelling}
 use Rattle.rebac.proofs.Reach.{has-walk, walk-has}
 use Rattle.rebac.proofs.WordsLaws.{length-in, length-out}
+use Rattle.rebac.proofs.LackedLaws.{find-append}
 use Rattle.letters.specs.promises.Letters.{Classed}
 use Rattle.classes.specs.promises.Prefixes.{lettersFrom, firstOnward, Closed}
 
@@ -75,12 +76,12 @@ module _ (g : Graph ℕ) where
         }
 
     -- q has every word that p has of these letters and then k classes
-    abbrev Covered : Pair → Pair → List ℕ → ℕ → Type 0
-    Covered p q fixed k = (w : List ℕ) → length w ≡ k → ((j : ℕ) → List·Memᴰ j w → (base ≤ j) × (j < end))
+    abbrev HasThese : Pair → Pair → List ℕ → ℕ → Type 0
+    HasThese p q fixed k = (w : List ℕ) → length w ≡ k → ((j : ℕ) → List·Memᴰ j w → (base ≤ j) × (j < end))
         → has g p (fixed ++ w) ≡ true → has g q (fixed ++ w) ≡ true
 
     pub prefix-law : (p q : Pair) → p .first < g .parties → q .first < g .parties → (fixed rest : List ℕ)
-        → Covered p q fixed (length rest) → ((i : ℕ) → List·Memᴰ i rest → i < base)
+        → HasThese p q fixed (length rest) → ((i : ℕ) → List·Memᴰ i rest → i < base)
         → has g p (fixed ++ rest) ≡ true → has g q (fixed ++ rest) ≡ true
     prefix-law p q l m fixed rest covered low e =
         let r = has-walk g p (fixed ++ rest) e in
@@ -140,11 +141,6 @@ module _ (g : Graph ℕ) (p q : Pair) where
   pub onward-end : (al fixed : List ℕ) → firstOnward g p q al fixed 0 ≡ firstBy (tells g p q) (fixed ∷ [])
   unfolding firstOnward wordsOfLength
   onward-end al fixed = ap (λ (w : List ℕ). firstBy (tells g p q) (w ∷ [])) (append-nil fixed)
-
-  find-append : (t : List ℕ → Bool) (l m : List (List ℕ)) → firstBy t (l ++ m) ≡ orElse (firstBy t l) (firstBy t m)
-  unfolding firstBy
-  find-append t [] m = refl
-  find-append t (x ∷ l) m = by-test (t x) (λ e. rw (e, firstBy)) (λ e. rw (e, firstBy) (find-append t l m))
 
   map-onto : (fixed : List ℕ) (s : ℕ) (l : List (List ℕ))
       → map (λ w. fixed ++ w) (map (λ w. s ∷ w) l) ≡ map (λ w. (fixed ++ (s ∷ [])) ++ w) l

@@ -6,4 +6,3 @@ mod seek;
 mod table;
 
 pub use lengths::first_telling_word;
-pub use seek::first_telling;

@@ -1,6 +1,6 @@
 -- Following one chain passes exactly where the chain's records are right and new: by induction on the turns, both ways. Assumes nothing.
 use mathlib.Core.Path.{_≡_, refl, sym, ap, _∙_}
-use mathlib.Core.Bool.{Bool, true, false, _||_}
+use mathlib.Core.Bool.{Bool, true, false}
 use mathlib.Core.List.{List, [], _∷_, _++_, append-assoc, List·Memᴰ, List·Memᴰ·head, List·Memᴰ·tail, List·Memᴰ·not-nil, append-nil}
 use Prim.Native.Nat.{ℕ, zero, suc, _≤_, _<_}
 use native.Mathlib.Omega.{arith}
@@ -8,7 +8,7 @@ use lib.Dec.{eqb, ltb}
 use borrow.Author.Tests.{eq-eqb, ne-eqb, le-ltb, eqb-true, eqb-false, ltb-false, ltb-true, lt-ltb}
 use Rattle.lists.specs.Lists.{anyOf, member}
 use Rattle.lists.specs.Order.{Distinct}
-use Rattle.lists.proofs.Cases.{by-test, by-mem, both, clash}
+use Rattle.lists.proofs.Cases.{by-test, by-mem, both, clash, or-left, or-right}
 use Rattle.house_layout.specs.Layout.{partiesOf, labelsOf, recordsOf, recordOf}
 use Rattle.house_layout.specs.Fields.{foreign, legalTarget, legalKind}
 use Rattle.house_file.specs.Check.{recordCheck, says, Followed, passed, ifAccepted, followChain}
@@ -17,14 +17,6 @@ use Rattle.house_layout.specs.declared.reply.Check.{Check}
 use Rattle.house_layout.specs.declared.reply.Check.the-variants.{Accepted, Refused}
 use Rattle.house_layout.proofs.RecordLaws.{judge-accepts, judge-passed}
 use Rattle.house_file.proofs.ChainLaws.{any-more, any-yes, any-no, unlike}
-
-or-left : (b c : Bool) → (b || c) ≡ false → b ≡ false
-or-left true c e = e
-or-left false c e = refl
-
-or-right : (b c : Bool) → (b || c) ≡ false → c ≡ false
-or-right true c e = clash e
-or-right false c e = e
 
 -- a test that no element of a longer list passes
 any-left : {A : Type 0} (p : A → Bool) (l : List A) (x : A) → anyOf p (l ++ (x ∷ [])) ≡ false → anyOf p l ≡ false

@@ -50,6 +50,14 @@ pub or-false : (b : Bool) → (b || false) ≡ b
 or-false true = refl
 or-false false = refl
 
+pub or-left : (b c : Bool) → (b || c) ≡ false → b ≡ false
+or-left true c e = e
+or-left false c e = refl
+
+pub or-right : (b c : Bool) → (b || c) ≡ false → c ≡ false
+or-right true c e = clash e
+or-right false c e = e
+
 pub and-left : (b c : Bool) → (b && c) ≡ true → b ≡ true
 and-left true c e = refl
 and-left false c e = e

@@ -1,6 +1,6 @@
 -- A path is a walk: backwards over a word, a pair that the row lacks has no walk, and so no path. Assumes nothing.
-use mathlib.Core.Path.{_≡_, refl, sym, ap, _∙_}
-use mathlib.Core.Bool.{Bool, true, false, _||_}
+use mathlib.Core.Path.{_≡_, sym, ap, _∙_}
+use mathlib.Core.Bool.{true, false}
 use mathlib.Core.List.{List, [], _∷_}
 use mathlib.Core.Logic.{by-cases}
 use Prim.Native.Nat.{ℕ, suc, _+_, _-_, _≤_, _<_}
@@ -9,7 +9,7 @@ use native.Mathlib.Omega.{arith}
 use lib.ListN.{getD, drop, drop-of-length-le}
 use lib.Seq.{drop-cons, getD-take}
 use lib.Bits.{bitOr}
-use Rattle.lists.proofs.Cases.{by-test, both}
+use Rattle.lists.proofs.Cases.{by-test, both, or-left, or-right}
 use Rattle.masks.specs.promises.Mask.{testBit}
 use Rattle.masks.specs.promises.Table.{noRow, maskIn}
 use Rattle.masks.specs.declared.Row.{Row}
@@ -24,14 +24,6 @@ use Rattle.search.specs.promises.WordValues.{Short}
 use Rattle.search.specs.promises.PairSearch.{tableGraph}
 use Rattle.search.specs.promises.WalkPairs.{StepsBack, CoversPairs}
 use Rattle.search.proofs.SearchLaws.{symbols-length, short-fits}
-
-or-left : (b c : Bool) → (b || c) ≡ false → b ≡ false
-or-left true c e = e
-or-left false c e = refl
-
-or-right : (b c : Bool) → (b || c) ≡ false → c ≡ false
-or-right true c e = both refl e
-or-right false c e = e
 
 -- one party more: the symbol leads to it and its ends are added, or the symbol does not
 module _ (from : Row) (s : ℕ) (row : Row) (mask k : ℕ) (h : StepsBack from s row mask k) where
