@@ -1,10 +1,10 @@
 """Small house files in which many pairs have nearly the same words.
 
 A graph is drawn with parties that are alike: a turned ring, parties with the same
-relations, two copies, or none; then a relation or two may be changed, labels may be
-made to stand together, and relations to go both ways. The permits are chosen so
-that the verdict must go far into a pair's words. Nothing here decides a reply; that
-is quick.py's part.
+relations, two copies, couples, or none; then a relation or two may be changed, labels
+may be made to stand together, and relations to go both ways. The permits are chosen
+so that the verdict must go far into a pair's words. Nothing here decides a reply;
+that is quick.py's part.
 """
 
 import brute
@@ -22,6 +22,7 @@ DEMANDS = {
     "rival by an exchange of two": 80, "rival by another map": 80, "rival by no map": 80,
     "symbols that hold for the same pairs, convertible": 80, "symbols that hold for the same pairs, rival": 150,
     "a word of 5 symbols or more is added": 15, "several words are added": 100,
+    "symbols that follow on walks only, convertible": 5, "symbols that follow on walks only, rival": 40,
 }
 DEMANDS.update({"language %d, %s" % (language, reply): 8 for language in range(4) for reply in ("convertible", "rival")})
 
@@ -36,7 +37,7 @@ def drawn(rng):
         n, labels, longest = rng.randint(5, 7), rng.randint(2, 3), rng.randint(5, 8)
     if language in (1, 3) and rng.random() < 0.6:
         n, labels, longest = rng.randint(5, 7), 3, rng.choice([3, 4])
-    edges = rng.choice([turned, same_relations, two_copies, any_relations])(rng, n, labels, rng.choice([0.2, 0.5, 0.8, 0.9]))
+    edges = rng.choice([turned, same_relations, two_copies, couples, any_relations])(rng, n, labels, rng.choice([0.2, 0.5, 0.8, 0.9]))
     if rng.random() < 0.3:
         edges |= {(v, u, label) for u, v, label in edges}
     if labels > 1 and rng.random() < 0.4:
@@ -78,6 +79,13 @@ def two_copies(rng, n, labels, part):
                 if rng.random() < part:
                     edges |= {(n - 1, u, label), (n - 1, u + half, label)}
     return edges
+
+
+def couples(rng, n, labels, part):
+    """Label 0 joins each party with the one beside it, both ways, so that on a path it never follows itself; one may be left
+    alone. The other labels are at random."""
+    edges = {(u, v, 0) for first in range(0, n - 1, 2) for u, v in ((first, first + 1), (first + 1, first))}
+    return edges | {edge for edge in any_relations(rng, n, labels, part) if edge[2] > 0}
 
 
 def some_permits(rng, house):
@@ -131,6 +139,8 @@ def occurrences(house, judged, most):
     held = [pairs for pairs in held if pairs]
     if len(set(held)) < len(held):
         names.append("symbols that hold for the same pairs, %s" % kind)
+    if most > VERY_MANY and walked_only(house, graph):
+        names.append("symbols that follow on walks only, %s" % kind)
     if kind == "rival":
         names.append("rival by " + map_name(house, graph, *judged.reply[1:]))
     else:
@@ -139,6 +149,16 @@ def occurrences(house, judged, most):
         if any(len(term) > 2 for term in judged.terms):
             names.append("several words are added")
     return names
+
+
+def walked_only(house, graph):
+    """Whether some symbol leads on after another only back to the party it came from."""
+    walked, passed = set(), set()
+    for u, v in graph:
+        for w in range(house.n):
+            if w != v:
+                (walked if w == u else passed).update((s, t) for s in graph[(u, v)] for t in graph[(v, w)])
+    return not walked <= passed
 
 
 def map_name(house, graph, pair, other):

@@ -37,7 +37,7 @@ SECONDS_FOR_ROW = 30      # of processor time
 SECONDS_OF_RUN = 1500     # a call on a small file that does not end ends the run without its last line
 PAIRS_OF_ROW = 12         # that the permit call is asked about
 TEXT_SHOWN = 200
-DRAWN = 2500
+DRAWN = 3200
 MOST_WORDS = 8000         # before the first one lacked, so that a search without shortcuts ends
 
 # One call: its name and arguments, the reply expected and the one found.

@@ -161,10 +161,19 @@ class Alike(unittest.TestCase):
             if alike.map_name(house, graph, pair, other) != "no map":
                 self.assertIsNone(reckoner.lacked(pair, other))
 
+    def test_symbols_that_follow_on_walks_only(self):
+        rng = random.Random(69)
+        chain = brute.House(4, 1, 0, 3, {(u, u + 1, 0) for u in range(3)}, set())
+        couples = chain._replace(edges=alike.couples(rng, 5, 1, 0.5), n=5)
+        for house, expected in ((chain, False), (couples, True), (couples._replace(language=3), True),
+                                (chain._replace(edges=alike.any_relations(rng, 4, 1, 1.0)), False)):
+            self.assertEqual(alike.walked_only(house, brute.enlarged(house)), expected, house)
+
     def test_every_demand_can_be_met(self):
         names = {"convertible", "rival"} | {"rival by " + way for way in ("an exchange of two", "another map", "no map")}
         for kind in ("convertible", "rival"):
             names |= {kind + ", very many words", "symbols that hold for the same pairs, " + kind}
+            names.add("symbols that follow on walks only, " + kind)
             names |= {"language %d, %s" % (language, kind) for language in range(4)}
         names |= {"a word of 5 symbols or more is added", "several words are added"}
         self.assertEqual(set(alike.DEMANDS), names)

@@ -61,7 +61,7 @@ fn telling_of_length(
     if l.few {
         let end = l.end;
         let masks = l.masks;
-        let c = first_telling(&masks, n, first, second, u, v, len, end, end);
+        let c = first_telling(&masks, l.follow, n, first, second, u, v, len, end, end);
         if !c.found {
             return c;
         }

@@ -16,6 +16,7 @@ use crate::seek::first_telling;
 use letters::MOST_LETTERS;
 use letters::class_letters;
 use letters::letters_of;
+use masks::Row;
 use masks::Table;
 use search::Word;
 use words::Next;
@@ -26,6 +27,7 @@ use words::zeros;
 // The first telling word of more than `from` letters below `base` and at most d. A word of n letters or more is on no path.
 fn telling_longer(
     masks: &[u32],
+    follow: Row,
     n: usize,
     first: usize,
     second: usize,
@@ -36,7 +38,7 @@ fn telling_longer(
     base: usize,
     end: usize,
 ) -> Next
-    requires { ⌜ PrefixQuery (now masks) n first second u v d base end ⌝ }
+    requires { ⌜ PrefixQuery (now masks) follow n first second u v d base end ⌝ }
     ensures { λ r. ⌜ Short (r .word) × NextAs
         (firstTellingLonger (lettersGraph n (now (masks .entry))) (pair first second) (pair u v) (range base) from (d - from)) r ⌝ }
 {
@@ -46,7 +48,7 @@ fn telling_longer(
         if n <= len {
             return nothing(zeros(0));
         }
-        let c = first_telling(masks, n, first, second, u, v, len, base, end);
+        let c = first_telling(masks, follow, n, first, second, u, v, len, base, end);
         if c.found {
             return c;
         }
@@ -93,7 +95,7 @@ pub fn first_telling_word(
     let end = l.end;
     let symbols = l.symbols;
     let masks = l.masks;
-    let r = telling_longer(&masks, n, first, second, u, v, from, d, base, end);
+    let r = telling_longer(&masks, l.follow, n, first, second, u, v, from, d, base, end);
     if r.found {
         return Next {
             found: true,

@@ -1,5 +1,6 @@
 // Telling words by prefixes: the first pair has them and the second lacks them.
 ghost use mathlib.Core.Path.{_≡_};
+ghost use Prim.Native.Nat.{_<_};
 ghost use Rattle.lists.specs.Lists.{range};
 ghost use Rattle.rebac.specs.Matter.{pair};
 ghost use Rattle.rebac.specs.promises.Telling.{tells, firstTelling};
@@ -7,8 +8,9 @@ ghost use Rattle.search.specs.Word.{symbolsIn};
 ghost use Rattle.search.specs.promises.WordValues.{Short};
 ghost use Rattle.words.specs.promises.Next.{NextAs};
 ghost use Rattle.letters.specs.promises.Letters.{lettersGraph};
-ghost use Rattle.classes.specs.promises.Prefixes.{TellQuery, OpenQuery, SeekQuery, PrefixQuery, Opens, Sought};
+ghost use Rattle.classes.specs.promises.Prefixes.{TellQuery, OpenQuery, SeekQuery, PrefixQuery, After, Opens, Sought};
 use crate::table::table_of;
+use masks::Row;
 use masks::has;
 use masks::with;
 use search::Word;
@@ -39,9 +41,22 @@ fn tells_word(
     false
 }
 
-// The letters from `low` to below `high` that may stand at place `at` of a path, any letters after it.
+// The letters that may stand at place `at` after the one before it; at the first place all.
+fn letters_after(follow: Row, w: Word, at: usize) -> u32
+    requires { ⌜ Short w × (at < w .len) ⌝ }
+    ensures { λ r. ⌜ After follow w at r ⌝ }
+{
+    if at == 0 {
+        return 4294967295;
+    }
+    follow.masks[w.symbols[at - 1] as usize]
+}
+
+// The letters from `low` to below `high` that may stand at place `at` of a path, any letters after it. At the last place no path is sought,
+// since the whole word will be.
 fn letters_open(
     masks: &[u32],
+    follow: Row,
     n: usize,
     first: usize,
     second: usize,
@@ -50,16 +65,22 @@ fn letters_open(
     low: usize,
     high: usize,
 ) -> u32
-    requires { ⌜ OpenQuery (now masks) n first second w at high ⌝ }
+    requires { ⌜ OpenQuery (now masks) follow n first second w at high ⌝ }
     ensures { λ r. ⌜ Opens (now (masks .entry)) n first second w at low high r ⌝ }
 {
+    let after = letters_after(follow, w, at);
+    if at + 1 == w.len {
+        return after;
+    }
     let g = table_of(masks);
     let mut leads: u32 = 0;
     let mut c = low;
     while c < high {
-        let f = search_pair(g, n, first, second, put_symbol(w, at, c as u8), at + 1);
-        if f.found {
-            leads = with(leads, c as u32);
+        if has(after, c as u32) {
+            let f = search_pair(g, n, first, second, put_symbol(w, at, c as u8), at + 1);
+            if f.found {
+                leads = with(leads, c as u32);
+            }
         }
         c += 1;
     }
@@ -70,6 +91,7 @@ fn letters_open(
 // Where there are classes for these letters, from `high` to below `end`, and no word with classes in their place tells, there is none.
 fn seek(
     masks: &[u32],
+    follow: Row,
     n: usize,
     first: usize,
     second: usize,
@@ -81,7 +103,7 @@ fn seek(
     high: usize,
     end: usize,
 ) -> Next
-    requires { ⌜ SeekQuery (now masks) n first second u v w at high end ⌝ }
+    requires { ⌜ SeekQuery (now masks) follow n first second u v w at high end ⌝ }
     ensures { λ r. ⌜ Sought (now (masks .entry)) n first second u v w at low high r ⌝ }
 {
     if w.len <= at {
@@ -92,17 +114,18 @@ fn seek(
     }
     let next = at + 1;
     if high < end {
-        let classes = seek(masks, n, first, second, u, v, w, at, high, end, end);
+        let classes = seek(masks, follow, n, first, second, u, v, w, at, high, end, end);
         if !classes.found {
             return nothing(w);
         }
     }
-    let leads = letters_open(masks, n, first, second, w, at, low, high);
+    let leads = letters_open(masks, follow, n, first, second, w, at, low, high);
     let mut c = low;
     while c < high {
         if has(leads, c as u32) {
             let r = seek(
                 masks,
+                follow,
                 n,
                 first,
                 second,
@@ -126,6 +149,7 @@ fn seek(
 // The first telling word of `len` letters below `base`; those from `base` to below `end` are the classes.
 pub fn first_telling(
     masks: &[u32],
+    follow: Row,
     n: usize,
     first: usize,
     second: usize,
@@ -135,9 +159,9 @@ pub fn first_telling(
     base: usize,
     end: usize,
 ) -> Next
-    requires { ⌜ PrefixQuery (now masks) n first second u v len base end ⌝ }
+    requires { ⌜ PrefixQuery (now masks) follow n first second u v len base end ⌝ }
     ensures { λ r. ⌜ Short (r .word)
         × NextAs (firstTelling (lettersGraph n (now (masks .entry))) (pair first second) (pair u v) (range base) len) r ⌝ }
 {
-    seek(masks, n, first, second, u, v, zeros(len), 0, 0, base, end)
+    seek(masks, follow, n, first, second, u, v, zeros(len), 0, 0, base, end)
 }

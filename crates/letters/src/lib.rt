@@ -1,5 +1,6 @@
 // Letters: one for the least of symbols that hold for the same pairs, and one for each of a graph's different masks.
 mod different;
+mod follow;
 mod least;
 mod write;
 

@@ -4,19 +4,23 @@ ghost use Rattle.letters.specs.promises.Writing.{LettersIn, LettersQuery
 use crate::MOST_LETTERS;
 use crate::different::classes_of;
 use crate::different::nested;
+use crate::follow::followers;
 use crate::least::least_symbols;
 use limits::MOST_PARTIES;
 use limits::PAIR_NUMBERS;
+use masks::Row;
 use masks::Table;
+use masks::empty_row;
 
 // A graph in letters, if they are few enough for a mask: those below `base` stand for symbols, those from there to below `end` are classes.
-// The mask of (u, v) stands at 32u + v.
+// The mask of (u, v) stands at 32u + v. `follow` has for each letter those that may follow it.
 pub struct Letters {
     pub few: bool,
     pub base: usize,
     pub end: usize,
     pub symbols: [u8; MOST_LETTERS],
     pub masks: [u32; PAIR_NUMBERS],
+    pub follow: Row,
 }
 
 // A mask in letters.
@@ -78,6 +82,7 @@ fn no_letters() -> Letters
         end: 0,
         symbols: [0u8; MOST_LETTERS],
         masks: [0u32; PAIR_NUMBERS],
+        follow: empty_row(),
     }
 }
 
@@ -96,12 +101,14 @@ pub fn letters_of(g: Table) -> Letters
                 let symbols = l.symbols;
                 let classes = c.masks;
                 let masks = write(g, symbols, base, classes, end);
+                let follow = followers(&masks);
                 return Letters {
                     few: true,
                     base,
                     end,
                     symbols,
                     masks,
+                    follow,
                 };
             }
         }
@@ -122,12 +129,14 @@ pub fn class_letters(g: Table) -> Letters
             let symbols = l.symbols;
             let classes = c.masks;
             let masks = write(g, symbols, 0, classes, end);
+            let follow = followers(&masks);
             return Letters {
                 few: true,
                 base: 0,
                 end,
                 symbols,
                 masks,
+                follow,
             };
         }
     }

@@ -66,7 +66,7 @@ pub fn party_search(
 
 // The candidates after party u in ascending order, and from each to the party beyond. The target ends a path, so it is no candidate here.
 // One or two places left are last steps. At place 0, unless no candidate may stand there, the parties with a last step are gathered.
-// Once those that failed have cost 16 parties for each place left, beside which a look at walks is cheap, a candidate with no walk
+// Once those that failed have cost more parties than places are left, beside which a look at walks is cheap, a candidate with no walk
 // onward is skipped.
 pub fn candidate_search(
     g: Table,
@@ -121,7 +121,7 @@ pub fn candidate_search(
                         if at + 3 < len {
                             tried = std::num::wrapping_add_u32(tried, f.tried);
                             if onward == 4294967295 {
-                                if (len - at) * 16 < tried as usize {
+                                if len - at < tried as usize {
                                     onward = walkable(g, w, fixed, at + 1, n, target, visited);
                                 }
                             }

@@ -20,6 +20,7 @@ use Rattle.search.specs.promises.WordValues.{Short}
 use Rattle.search.specs.declared.word.Word.{Word}
 use Rattle.words.specs.promises.Next.{Alphabet, Places, NextAs}
 use Rattle.words.specs.declared.next.Next.{Next}
+use Rattle.letters.specs.promises.Following.{Follows}
 use Rattle.letters.specs.promises.Letters.{lettersGraph, Classed}
 
 -- the masks from u on of the list are those of the row, and all of them those of the table
@@ -50,8 +51,9 @@ pub record TellQuery (masks : List ℕ) (n first second u v : ℕ) (w : Word) : 
   pub short : Short w
 
 -- for the letters with which a path still exists,
-pub record OpenQuery (masks : List ℕ) (n first second : ℕ) (w : Word) (at high : ℕ) : Type 0 where
+pub record OpenQuery (masks : List ℕ) (row : Row) (n first second : ℕ) (w : Word) (at high : ℕ) : Type 0 where
   pub full : length masks ≡ pairNumbers
+  pub follow : Follows masks row
   pub parties : n ≤ mostParties
   pub isPair : IsPair n (pair first second)
   pub short : Short w
@@ -59,16 +61,18 @@ pub record OpenQuery (masks : List ℕ) (n first second : ℕ) (w : Word) (at hi
   pub few : high ≤ symbolCount
 
 -- to seek along letters below `high`, for which those from `high` to below `end` are the classes, if there are any,
-pub record SeekQuery (masks : List ℕ) (n first second u v : ℕ) (w : Word) (at high end : ℕ) : Type 0 where
+pub record SeekQuery (masks : List ℕ) (row : Row) (n first second u v : ℕ) (w : Word) (at high end : ℕ) : Type 0 where
   pub query : TellQuery masks n first second u v w
+  pub follow : Follows masks row
   pub place : at ≤ w .len
   pub order : high ≤ end
   pub few : end ≤ symbolCount
   pub classed : high < end → Classed (lettersGraph n masks) high end
 
 -- for the first telling word of so many letters below `base`, for which the others are the classes, if there are any,
-pub record PrefixQuery (masks : List ℕ) (n first second u v len base end : ℕ) : Type 0 where
+pub record PrefixQuery (masks : List ℕ) (row : Row) (n first second u v len base end : ℕ) : Type 0 where
   pub full : length masks ≡ pairNumbers
+  pub follow : Follows masks row
   pub parties : n ≤ mostParties
   pub isPair : IsPair n (pair first second)
   pub other : IsPair n (pair u v)
@@ -105,6 +109,12 @@ abbrev pub Opens : List ℕ → ℕ → ℕ → ℕ → Word → ℕ → ℕ →
 Opens masks n first second w at low high mask =
     (fixed : List ℕ) (k : ℕ) → Places w fixed 0 k → length fixed ≡ at
     → (c : ℕ) → low ≤ c → c < high → testBit mask c ≡ false → Closed (lettersGraph n masks) (pair first second) fixed k c
+
+-- the same by the letters that may follow each other, whatever the pair and the list of masks,
+abbrev pub After : Row → Word → ℕ → ℕ → Type 0
+After follow w at mask =
+    (masks : List ℕ) (n first second : ℕ) → n ≤ mostParties → first < n → Follows masks follow
+    → Opens masks n first second w at 0 symbolCount mask
 
 -- and the first telling word with the places before `at` as they stand and letters from `low` to below `high` after, where there is one
 pub record Sought (masks : List ℕ) (n first second u v : ℕ) (w : Word) (at low high : ℕ) (r : Next) : Type 0 where

@@ -12,6 +12,7 @@ use Rattle.masks.specs.promises.Mask.{testBit}
 use Rattle.masks.specs.promises.Table.{maskAt}
 use Rattle.masks.specs.declared.Table.{Table}
 use Rattle.search.specs.promises.PairSearch.{tableGraph}
+use Rattle.letters.specs.promises.Following.{Follows}
 use Rattle.letters.specs.promises.Letters.{lettersGraph, Lettered, InClasses}
 use Rattle.letters.specs.declared.least.Least.{Least}
 use Rattle.letters.specs.declared.different.Classes.{Classes}
@@ -113,10 +114,12 @@ pub record NoLetters (r : Letters) : Type 0 where
 pub record LettersMade (g : Table) (r : Letters) : Type 0 where
   pub symbols : length (r .symbols) ≡ symbolCount
   pub masks : length (r .masks) ≡ pairNumbers
+  pub follow : r .few ≡ true → Follows (r .masks) (r .follow)
   pub lettered : (n : ℕ) → n ≤ mostParties → r .few ≡ true
       → Lettered (tableGraph n g) (lettersGraph n (r .masks)) (r .symbols) (r .base) (r .end)
 
 -- the graph in classes alone, where they are few
 pub record ClassesMade (g : Table) (r : Letters) : Type 0 where
   pub masks : length (r .masks) ≡ pairNumbers
+  pub follow : r .few ≡ true → Follows (r .masks) (r .follow)
   pub inClasses : (n : ℕ) → n ≤ mostParties → r .few ≡ true → InClasses (tableGraph n g) (lettersGraph n (r .masks)) (r .end)

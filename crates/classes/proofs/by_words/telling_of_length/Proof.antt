@@ -27,6 +27,7 @@ first-telling-requires c κs =
     let w = p .1 in
     record {
       full = p .0 .masks;
+      follow = p .0 .follow (c .before .before .if1 .taken);
       parties = w .parties;
       isPair = w .isPair;
       other = w .other;

@@ -37,9 +37,11 @@ slice-aggregate-telling-longer c = search needs
 telling-longer-requires : tie.Need-telling-longer-requires
 telling-longer-requires c κs =
     let p = c .before .before .before .before .before .before .pre in
+    let l = c .before .before .before .before .before .letters-of .ensures in
     let k = lettered (c .before .before .before) in
     record {
-      full = c .before .before .before .before .before .letters-of .ensures .masks;
+      full = l .masks;
+      follow = l .follow (not-false _ (c .before .before .before .if1 .left));
       parties = p .parties;
       isPair = p .isPair;
       other = p .other;

@@ -22,11 +22,11 @@ longer masks n first second u v d base k =
     firstTellingLonger (lettersGraph n masks) (pair first second) (pair u v) (range base) k (d - k)
 
 abbrev Inv-loop : tie.InvT-loop
-Inv-loop masks n first second u v from d base end len₀ len =
+Inv-loop masks follow n first second u v from d base end len₀ len =
     longer masks n first second u v d base from ≡ longer masks n first second u v d base len
 
 abbrev μ-loop : tie.MeasureT-loop
-μ-loop masks n first second u v from d base end len₀ len = d - len
+μ-loop masks follow n first second u v from d base end len₀ len = d - len
 
 -- the words of the length tried
 abbrev tried : tie.After-first-telling Inv-loop μ-loop → Option (List ℕ)
@@ -74,6 +74,7 @@ first-telling-requires c κs =
     let p = c .before .before .before .before .pre in
     record {
       full = p .full;
+      follow = p .follow;
       parties = p .parties;
       isPair = p .isPair;
       other = p .other;

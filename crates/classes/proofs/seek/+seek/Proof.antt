@@ -24,9 +24,9 @@ use Rattle.words.proofs.put_symbol.Reads as put-symbol-reads
 use Rattle.classes.proofs.seek.+seek.{statement}
 use Rattle.classes.proofs.seek.+seek.Tie.{close}
 
--- over the calls: the seventh argument is the word, then come the place `at`, `low`, `high` and `end`
+-- over the calls: the eighth argument is the word, then come the place `at`, `low`, `high` and `end`
 abbrev μ-seek : Measures 1 seek-kinds.ps ℕ
-μ-seek κs a = let x = a .1 .1 .1 .1 .1 .1 in (x .0 .len - x .1 .0) + (x .1 .1 .1 .1 .0 - x .1 .1 .1 .0)
+μ-seek κs a = let x = a .1 .1 .1 .1 .1 .1 .1 in (x .0 .len - x .1 .0) + (x .1 .1 .1 .1 .0 - x .1 .1 .1 .0)
 
 abbrev seek-at : ℕ → In 1 seek-kinds.ps
 seek-at t = and 1 seek-kinds.ps (is 1 seek-kinds.ps μ-seek t) seek.Pre
@@ -35,10 +35,10 @@ abbrev seek-below : ℕ → In 1 seek-kinds.ps
 seek-below t = and 1 seek-kinds.ps (falls 1 seek-kinds.ps _<_ μ-seek t) seek.Pre
 
 abbrev seek-Inv-loop : seek-lts.InvT-loop
-seek-Inv-loop masks n first second u v w at low high end next leads c₀ c = Turn masks n first second u v w at low high c
+seek-Inv-loop masks follow n first second u v w at low high end next leads c₀ c = Turn masks n first second u v w at low high c
 
 abbrev seek-μ-loop : seek-lts.MeasureT-loop
-seek-μ-loop masks n first second u v w at low high end next leads c₀ c = high - c
+seek-μ-loop masks follow n first second u v w at low high end next leads c₀ c = high - c
 
 -- at the measure t
 module _ (t : ℕ) where
@@ -83,6 +83,7 @@ module _ (t : ℕ) where
         omega (arith, x .pre .0, c .if2 .taken),
         record {
           query = p .query;
+          follow = p .follow;
           place = omega (arith, c .before .if1 .left);
           order = omega arith;
           few = p .few;
@@ -109,6 +110,7 @@ module _ (t : ℕ) where
       let p = c .before .before .before .before .pre .1 in
       record {
         full = p .query .full;
+        follow = p .follow;
         parties = p .query .parties;
         isPair = p .query .isPair;
         short = p .query .short;
@@ -152,6 +154,7 @@ module _ (t : ℕ) where
         omega (arith, x .pre .0, place, put .len),
         record {
           query = record { full = q .full; parties = q .parties; isPair = q .isPair; other = q .other; short = put .short };
+          follow = p .follow;
           place = omega (arith, place, put .len);
           order = p .order;
           few = p .few;

@@ -16,6 +16,7 @@ seek-requires c κs =
     let p = c .before .before .pre in
     record {
       query = record { full = p .full; parties = p .parties; isPair = p .isPair; other = p .other; short = c .zeros .ensures .0 };
+      follow = p .follow;
       place = omega arith;
       order = p .order;
       few = p .few;

@@ -20,16 +20,23 @@ nested-requires c κs = c .before .before .before .classes-of .ensures .roomy
 write-requires : tie.Need-write-requires
 write-requires c κs = search needs
 
+slice-aggregate-followers : tie.Need-slice-aggregate-followers
+slice-aggregate-followers c = search needs
+
+followers-requires : tie.Need-followers-requires
+followers-requires c κs = search needs
+
 returns : tie.Need-returns
 returns c =
-    let w = c .write .ensures in
-    let f = c .before .before .before .before .before in
+    let w = c .before .before .write .ensures in
+    let f = c .before .before .before .before .before .before .before in
     let x = f .before in
     let l = x .before .before .before .least-symbols .ensures in
     let k = x .before .before .classes-of .ensures in
     record {
       symbols = l .least .full;
       masks = w .full;
+      follow = λ e. c .followers .ensures;
       lettered = λ n h e. lettered _ _ _ _ l k (x .if1 .taken) (f .if2 .taken) w n h;
     }
 
@@ -39,7 +46,7 @@ no-letters-requires c κs = search needs
 returns-2 : tie.Need-returns-2
 returns-2 c =
     let e = c .no-letters .ensures in
-    record { symbols = e .symbols; masks = e .masks; lettered = λ n h t. both t (e .many) }
+    record { symbols = e .symbols; masks = e .masks; follow = λ t. both t (e .many); lettered = λ n h t. both t (e .many) }
 
 pub letters-of-spec : {M : Type 1} → statement M
 letters-of-spec =
@@ -50,6 +57,8 @@ letters-of-spec =
     add-end
     nested-requires
     write-requires
+    slice-aggregate-followers
+    followers-requires
     returns
     no-letters-requires
     returns-2)

@@ -331,9 +331,6 @@ module _ (t : ℕ) where
   candidate-search-sub-if13 : Candidate candidate-search-lts.Need-sub-if13
   candidate-search-sub-if13 c = search needs
 
-  candidate-search-mul-if13 : Candidate candidate-search-lts.Need-mul-if13
-  candidate-search-mul-if13 c = search needs
-
   candidate-search-cast-if13 : Candidate candidate-search-lts.Need-cast-if13
   candidate-search-cast-if13 c = search needs
 
@@ -453,7 +450,6 @@ pub +candidate-search+party-search-spec : {M : Type 1} → statement M
     (candidate-search-add-if11 t)
     (candidate-search-wrapping-add-u32-requires t)
     (candidate-search-sub-if13 t)
-    (candidate-search-mul-if13 t)
     (candidate-search-cast-if13 t)
     (candidate-search-add-walkable t)
     (candidate-search-walkable-requires t)
