@@ -345,6 +345,16 @@ def walked_only(rng, longest):
     return convertible("walked only, D %d" % longest, large.file_of(rng, 6, 1, 0, edges, {(0, 3)}, longest), [[(0, 0, 0)]])
 
 
+def growing_ring(rng, plain):
+    """A ring of 32 parties, language 0: so many steps with label 0, the others with labels 0 and 1. Permitted is party 0 to
+    the last before it, a whole round but one step; so its words have 31 symbols. Those of party 1 to party 0 begin one step
+    on, where no label is lacking, so it has them all; it comes first of all such pairs. The longest words, sought by
+    letters: the most stack that a call takes."""
+    edges = [(u, (u + 1) % 32, label) for u in range(32) for label in range(2 if u >= plain else 1)]
+    data = large.file_of(rng, 32, 2, 0, edges, {(0, 31)}, 31)
+    return rival("growing ring, %d plain steps" % plain, data, (0, 31), (1, 0))
+
+
 def walked_round(rng, size):
     """A ring, language 0, and one of two parties fewer. Permitted are the ring's pairs that are a whole round but one step
     apart. Their only word is as long; it leads round the other ring and one step on, by a walk and by no path."""
@@ -392,6 +402,7 @@ def rows():
     made += [smaller_clique(rng, *given) for given in ((5, 1, False), (7, 2, False), (9, 1, False), (17, 2, True), (16, 1, True))]
     made += [two_sides(rng, *given) for given in ((2, 2, False), (3, 4, False), (4, 5, False), (5, 7, False), (8, 8, True))]
     made += [walked_only(rng, longest) for longest in (3, 5, 31)] + [walked_round(rng, size) for size in (4, 6, 16)]
+    made += [growing_ring(rng, plain) for plain in (20, 21)]
     return made + list_rows(rng)
 
 

@@ -31,16 +31,18 @@ const SIZES: [usize; 8] = [4, 8, 10, 12, 16, 20, 24, 32];
 const NOTES: [&str; 4] = ["rules", "one added", "rules", "one taken"];
 const MOST_SYMBOLS_OF_RULE: usize = 3;
 const TRIES: usize = 50;
+const SEEDS: u64 = 10_000; // more than a drawing takes
 
-/// All files, in an order that is shuffled once and for all, so that a part has something of everything.
-pub fn all() -> Vec<Archive> {
+/// All files of a drawing, in an order that is shuffled once and for all, so that a part has something of everything. The
+/// fixed ones are the same in each.
+pub fn all(draw: u64) -> Vec<Archive> {
     let mut archives = fixed();
     for (number, kind) in KINDS[..8].iter().enumerate() {
         for language in 0..4 {
             for longest in LONGEST {
                 for (round, note) in NOTES.iter().enumerate() {
                     let seed = ((number * 4 + language as usize) * 32 + longest) * 4 + round;
-                    archives.push(drawn(kind, note, language, longest, Random(1000 + seed as u64)));
+                    archives.push(drawn(kind, note, language, longest, Random(1000 + SEEDS * draw + seed as u64)));
                 }
             }
         }

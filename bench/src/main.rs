@@ -1,9 +1,9 @@
 //! The product's three exports against the twin by hand and Algorithm 1 of document 000, on files made from fixed seeds.
 //!
-//!     bench [--limit SECONDS] [--part K] [--kind NAME] [--files]    the table; bench/README.md says what it shows
-//!     bench --write FOLDER                                          writes the files, each by its number
-//!     bench script                                                  path and next-word by the twin, from a script
-//!     bench permitconv                                              the program permitconv by the twin
+//!     bench [--limit SECONDS] [--part K] [--kind NAME] [--draw N] [--files]    the table; bench/README.md says what it shows
+//!     bench --write FOLDER [--draw N]                                          writes the files, each by its number
+//!     bench script                                                             path and next-word by the twin, from a script
+//!     bench permitconv                                                         the program permitconv by the twin
 //!
 //! build.sh builds it with or without the product's archive. `bench answer WHO LIMIT` is how it starts itself.
 
@@ -28,14 +28,17 @@ use answers::{ask, Who};
 use archives::Archive;
 use table::Row;
 
-const USAGE: &str = "usage: bench [--limit SECONDS] [--part K] [--kind NAME] [--files]
-       bench --write FOLDER | script | permitconv";
+const USAGE: &str = "usage: bench [--limit SECONDS] [--part K] [--kind NAME] [--draw N] [--files]
+       bench --write FOLDER [--draw N] | script | permitconv";
 
 struct Options {
     limit: f64,
     part: usize,
     kind: Option<String>,
+    /// Which drawing of the files: 0 is the one that the pages speak of, any other has the same kinds from other seeds.
+    draw: u64,
     files: bool,
+    write: Option<String>,
 }
 
 fn usage() -> ! {
@@ -44,7 +47,7 @@ fn usage() -> ! {
 }
 
 fn options(arguments: &[String]) -> Options {
-    let mut options = Options { limit: 10.0, part: 1, kind: None, files: false };
+    let mut options = Options { limit: 10.0, part: 1, kind: None, draw: 0, files: false, write: None };
     let mut rest = arguments.iter();
     while let Some(name) = rest.next() {
         if name == "--files" {
@@ -55,6 +58,8 @@ fn options(arguments: &[String]) -> Options {
         match name.as_str() {
             "--limit" => options.limit = value.parse().ok().filter(|&limit| limit > 0.0).unwrap_or_else(|| usage()),
             "--part" => options.part = value.parse().ok().filter(|&part| part > 0).unwrap_or_else(|| usage()),
+            "--draw" => options.draw = value.parse().unwrap_or_else(|_| usage()),
+            "--write" => options.write = Some(value.clone()),
             "--kind" => options.kind = archives::KINDS.contains(&value.as_str()).then(|| value.clone()).or_else(|| usage()),
             _ => usage(),
         }
@@ -64,7 +69,7 @@ fn options(arguments: &[String]) -> Options {
 
 /// Asks the three about each file of the part; the last line counts what agrees.
 fn compare(options: &Options) -> bool {
-    let archives = archives::all();
+    let archives = archives::all(options.draw);
     let of_kind = |archive: &Archive| options.kind.as_ref().map_or(true, |kind| kind == archive.kind);
     let mut rows = Vec::new();
     let (mut passed, mut failed) = (0, 0);
@@ -94,8 +99,8 @@ fn compare(options: &Options) -> bool {
     failed == 0 && passed > 0
 }
 
-fn write_files(folder: &str) {
-    for (number, archive) in archives::all().iter().enumerate() {
+fn write_files(folder: &str, draw: u64) {
+    for (number, archive) in archives::all(draw).iter().enumerate() {
         let path = std::path::Path::new(folder).join(format!("{number:03}-{}", archive.kind));
         std::fs::write(path, &archive.file).expect("the file can be written");
     }
@@ -108,9 +113,11 @@ fn main() {
         ["script"] => script::run(),
         ["permitconv"] => permitconv::run(),
         ["answer", who, limit] => answers::answer(who, limit),
-        ["--write", folder] => write_files(folder),
         _ => {
-            if !compare(&options(&arguments)) {
+            let options = options(&arguments);
+            if let Some(folder) = &options.write {
+                write_files(folder, options.draw);
+            } else if !compare(&options) {
                 std::process::exit(1);
             }
         }

@@ -1,5 +1,5 @@
--- Two letters that stand next to each other in a word of a path lead over three different parties, so the second follows the first. A letter
--- that does not follow the one before it begins no rest of a word. By induction on the letters before. Assumes nothing.
+-- Two letters that stand next to each other in a word of a path lead over three different parties, so the second follows the first.
+-- A letter that does not follow the one before it begins no rest of a word. By induction on the letters before. Assumes nothing.
 use mathlib.Core.Path.{_≡_, sym, _∙_}
 use mathlib.Core.Bool.{true, false}
 use mathlib.Core.List.{List, [], _∷_, _++_, List·Memᴰ·head, List·Memᴰ·tail}
@@ -16,7 +16,6 @@ use Rattle.masks.specs.declared.Row.{Row}
 use Rattle.rebac.specs.Matter.{pair}
 use Rattle.rebac.specs.Paths.{Walk, has}
 use Rattle.rebac.proofs.Reach.{has-walk}
-use Rattle.search.specs.Word.{symbolsIn}
 use Rattle.search.specs.declared.word.Word.{Word}
 use Rattle.search.specs.promises.WordValues.{Short}
 use Rattle.words.specs.promises.Next.{Places}
@@ -63,7 +62,8 @@ before-place w fixed k {at} p l some h =
     sym (List·getD-append fixed (0 ∷ replicate k 0) 0 (at - 1) (omega (arith, l)))
     ∙ rw (← p) (getD-take (w .len) (w .symbols) (at - 1) 0 (omega arith))
 
-pub after-row : (row : Row) (w : Word) (at : ℕ) → Short w → 0 < at → at < w .len → After row w at (maskIn row (getD (w .symbols) (at - 1) 0))
+pub after-row : (row : Row) (w : Word) (at : ℕ) → Short w → 0 < at → at < w .len
+    → After row w at (maskIn row (getD (w .symbols) (at - 1) 0))
 after-row row w at s some h masks n first second few inside F fixed k p l c low high e =
     let same = before-place w fixed k p l some h in
     after-closed masks row n few F first second inside fixed (at - 1) k c (omega (arith, l))

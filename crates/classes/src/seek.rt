@@ -163,5 +163,18 @@ pub fn first_telling(
     ensures { λ r. ⌜ Short (r .word)
         × NextAs (firstTelling (lettersGraph n (now (masks .entry))) (pair first second) (pair u v) (range base) len) r ⌝ }
 {
-    seek(masks, follow, n, first, second, u, v, zeros(len), 0, 0, base, end)
+    seek(
+        masks,
+        follow,
+        n,
+        first,
+        second,
+        u,
+        v,
+        zeros(len),
+        0,
+        0,
+        base,
+        end,
+    )
 }

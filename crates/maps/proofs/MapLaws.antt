@@ -50,4 +50,5 @@ used-all n m used i = record { inside = i .inside; one = i .one }
 pub map-covers : (n : ℕ) (t : Table) (m : Map) → CarriesSymbols n t m
     → (first second u v : ℕ) → first < n → imageOf m first ≡ u → imageOf m second ≡ v → Covered n t (pair first second) (pair u v)
 map-covers n t m c first second u v h p q cap w =
-    rw (← p, ← q) (count-carried (tableGraph n t) (imageOf m) (c .inside) (c .one) (c .carry) (pair first second) w h cap)
+    let o = c .oneToOne in
+    rw (← p, ← q) (count-carried (tableGraph n t) (imageOf m) (o .inside) (o .one) (c .carry) (pair first second) w h cap)

@@ -29,8 +29,7 @@ RowCarried row image m n = (v s : ℕ) → v < n → testBit (maskIn row v) s �
 
 -- the map is one-to-one on the parties below n, and carries every symbol of the table
 pub record CarriesSymbols (n : ℕ) (t : Table) (m : Map) : Type 0 where
-  pub inside : (u : ℕ) → u < n → imageOf m u < n
-  pub one : (u v : ℕ) → u < n → v < n → imageOf m u ≡ imageOf m v → u ≡ v
+  pub oneToOne : OneToOne n m
   pub carry : (u v s : ℕ) → u < n → v < n → testBit (maskAt t u v) s ≡ true → testBit (maskAt t (imageOf m u) (imageOf m v)) s ≡ true
 
 -- the second pair has every word of the first, with at least as many paths

@@ -1,4 +1,4 @@
--- Invariant: of the letters before c, those that the mask lacks stand at the place in no word of the pair (OpenLaws).
+-- Invariant: of the letters before c, those that the mask lacks stand at the place in no word of the pair (OpenLaws, AfterLaws).
 -- Measure: the letters left.
 use mathlib.Core.Path.{sym, _∙_}
 use mathlib.Core.Logic.{⊎-elim}
@@ -32,8 +32,8 @@ closed c =
     let a = x .args in
     let p = x .pre in
     λ fixed k places size d low high e.
-    c .letters-after .ensures (a .masks .now) (a .n) (a .first) (a .second) (p .parties) (p .isPair .first) (p .follow) fixed k places size d
-    low (omega (arith, high, p .few)) e
+    c .letters-after .ensures (a .masks .now) (a .n) (a .first) (a .second) (p .parties) (p .isPair .first) (p .follow) fixed k
+    places size d low (omega (arith, high, p .few)) e
 
 returns : tie.Need-returns Inv-loop μ-loop
 returns c = λ fixed k p l x a b e. closed (c .before .before) fixed k p l x (omega arith) b e

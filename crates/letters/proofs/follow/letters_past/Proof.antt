@@ -1,7 +1,7 @@
 -- Invariant: `letters` has those to each party before z other than x (FollowLaws). Measure: the parties left.
 use borrow.Author.Needs.{needs}
 use mathlib.Core.Logic.{⊎-elim}
-use Prim.Native.Nat.{_-_, _≤_}
+use Prim.Native.Nat.{_-_}
 use native.Mathlib.Omega.{arith}
 use Rattle.limits.specs.Limits.{mostParties}
 use Rattle.letters.specs.promises.Following.{LeadsPast}

@@ -81,8 +81,7 @@ returns-3 c e =
     let x = c .before .before in
     let m = x .before .one-to-one .ensures (not-false _ (x .if1 .left)) in
     record {
-      inside = m .inside;
-      one = m .one;
+      oneToOne = m;
       carry = λ u v s h k. c .before .loop .inv .1 u (omega (arith, c .loop-test .left)) v s k;
     }
 
