@@ -1,4 +1,4 @@
-"""A slow and plain reckoning of document 01 and Tickets 1 to 3 of document 02, for small files.
+"""A slow and plain reckoning of document 01 and Tickets 1 to 4 of document 02, for small files.
 
 It is written from these alone and shares nothing with the product.
 Words are tuples of symbols, pairs are tuples of two parties, and a rule list
@@ -254,6 +254,27 @@ def next_word(house, u, v, word):
     return None
 
 
+def paths_to(house, v, graph=None):
+    """Every path to v of at most D symbols, from every other party: a dictionary from words to lists of the paths' parties."""
+    graph, found = graph or enlarged(house), {}
+    for c in range(house.n):
+        if c != v:
+            for parties, word in all_paths(house, c, v, graph):
+                found.setdefault(word, []).append(parties)
+    return found
+
+
+def word_test(house, u, v, word, listed=None):
+    """Whether the pair has the word, and a length: on yes the word's, on no that of the word's longest end, short of the word,
+    which a path to v has that u isn't on; 0 if there is none. listed, where it is given, is paths_to of v."""
+    listed = paths_to(house, v) if listed is None else listed
+    word = tuple(word)
+    if any(parties[0] == u for parties in listed.get(word, [])):
+        return True, len(word)
+    lengths = [k for k in range(1, len(word)) if any(u not in parties for parties in listed.get(word[-k:], []))]
+    return False, max(lengths, default=0)
+
+
 class Known:
     """A file's check, edition and house, the words of its pairs and its verdict, each reckoned once.
 
@@ -265,11 +286,11 @@ class Known:
         self.house = None if self.refusal else decode(data)
         if other is None:
             self.graph = None if self.refusal else enlarged(self.house)
-            self.tables = {}
+            self.tables, self.ways = {}, {}
         else:
             if self.house._replace(permits=other.house.permits) != other.house:
                 raise ValueError("the files differ in more than permits")
-            self.graph, self.tables = other.graph, other.tables
+            self.graph, self.tables, self.ways = other.graph, other.tables, other.ways
         self.lists = None
         self.answer = None
         self.mined = None
@@ -287,6 +308,12 @@ class Known:
     def words(self, u, v):
         """The pair's words in word order."""
         return list(self.least_paths(u, v))
+
+    def paths_to(self, v):
+        """Every path to v, by words."""
+        if v not in self.ways:
+            self.ways[v] = paths_to(self.house, v, self.graph)
+        return self.ways[v]
 
     def table(self):
         """The words of every pair."""
@@ -528,6 +555,22 @@ def next_word_reply(known, u, v, word, output):
         if word_key(candidate) > after:
             return ("length", len(candidate)), written_over(output, candidate)
     return ("none",), output
+
+
+def call_word_test(data, u, v, word):
+    return word_test_reply(Known(data), u, v, word)
+
+
+def word_test_reply(known, u, v, word):
+    """The same for a file of which something is known. It refuses as path does, but nothing is lent."""
+    if known.refusal:
+        return ("refused", known.refusal)
+    if not is_pair(known.house, u, v):
+        return ("refused", 10)
+    if len(word) == 0 or bad_word(known.house, word):
+        return ("refused", 11)
+    has, length = word_test(known.house, u, v, word, known.paths_to(v))
+    return ("yes" if has else "no", length)
 
 
 def call_permit(data, listed, u, v):

@@ -155,6 +155,8 @@ def show_difference(case, found):
     if parts.call in (script.PATH, script.NEXT_WORD):
         print("  pair: %d %d  given: %s  output lent: %d" % (
             parts.first, parts.second, shortened(parts.given), len(parts.output) - 2 * script.GUARD))
+    elif parts.call == script.TEST:
+        print("  pair: %d %d  given: %s" % (parts.first, parts.second, shortened(parts.given)))
     elif parts.call == script.WRITE:
         print("  output lent: %d" % (len(parts.output) - 2 * script.GUARD))
     elif parts.call in script.LISTED:

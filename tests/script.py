@@ -6,11 +6,12 @@ length of the file, of the given bytes (a word or a rule list), of the output,
 of the scratch, and 0. Then follow the file, the given bytes, the output's old
 bytes and the scratch's old bytes.
 
-For path and next-word the given bytes are 32: the word's length, then 31
+For path, next-word and test the given bytes are 32: the word's length, then 31
 symbols, of which those past the length mean nothing. Write has no given bytes
-and no parties. For these three calls 16 guard bytes stand before the output's
-old bytes and 16 after them; they aren't counted in the output's length and
-aren't lent. The reply's second line has all of these bytes after the call.
+and no parties. For path, next-word and write 16 guard bytes stand before the
+output's old bytes and 16 after them; they aren't counted in the output's length
+and aren't lent. The reply's second line has all of these bytes after the call.
+Test is lent nothing; its reply is `yes` or `no`, and a length.
 
 For permit, text and compare the given bytes are a rule list; nothing is lent.
 Text and compare have no parties. Text's reply shows the bytes of the list's text
@@ -33,13 +34,14 @@ CHECK = "c"
 DECODE = "d"
 PATH = "p"
 NEXT_WORD = "n"
+TEST = "t"
 PERMIT = "r"
 TEXT = "x"
 COMPARE = "m"
 WRITE = "w"
 
 # Each reply begins with a line that begins with one of these.
-NAMES = {CHECK: "check", DECODE: "decode", PATH: "path", NEXT_WORD: "next-word",
+NAMES = {CHECK: "check", DECODE: "decode", PATH: "path", NEXT_WORD: "next-word", TEST: "test",
          PERMIT: "permit", TEXT: "text", COMPARE: "compare", WRITE: "write"}
 
 # The calls whose output has guards, and those that are given a rule list.
@@ -69,6 +71,13 @@ def word_frame(call, data, first, second, given, output):
     if len(given) != 1 + SYMBOLS_GIVEN or not 0 <= len(output) - 2 * GUARD <= LONGEST_OUTPUT:
         raise ValueError("not a frame of path or next-word")
     return frame(call, data, first, second, given, output, guard=GUARD)
+
+
+def test_frame(data, first, second, given):
+    """The frame of a word test."""
+    if len(given) != 1 + SYMBOLS_GIVEN:
+        raise ValueError("not a frame of test")
+    return frame(TEST, data, first, second, given)
 
 
 def write_frame(data, output):
@@ -184,6 +193,11 @@ def output_text(call, reply, after):
     else:
         answer = "%d" % reply[1]
     return "%s %s\noutput %s\n" % (NAMES[call], answer, after.hex().upper())
+
+
+def test_text(reply):
+    """The line of test for this reply."""
+    return "test %s %d\n" % reply
 
 
 def permit_text(reply):

@@ -451,6 +451,46 @@ WORD_ROWS = [
     ("n", A_ALL_KINDS, (0, 2), "03 03", 31, "none", ""),
 ]
 
+# Parties 0 to 3 and D 5, with the relations (1,2) and (2,3) of label 0; the same in edition 2; the same without head 1.
+TWO_STEPS = "01 04 01 00 05 00 02 00  00 00 01 00 02 00 00 00  02 00 00 00  03 00 00 00"
+TWO_STEPS_EDITION_2 = "02 04 01 00 05 00 02 00  00 00 02 00 01 00 00 00  03 00 00 00 02  02 00 00 00 01"
+TWO_STEPS_HEAD_1_ZERO = "01 04 01 00 05 00 02 00  00 00 00 00 02 00 00 00  02 00 00 00  03 00 00 00"
+
+# Each row of test: the file, the pair, the given word, the expected answer.
+TEST_ROWS = [
+    (TWO_STEPS, (1, 3), "00 00", "yes 2"),
+    (TWO_STEPS, (0, 3), "00 00 00", "no 2"),
+    (TWO_STEPS, (0, 3), "00 00 00 00", "no 2"),
+    (TWO_STEPS, (1, 3), "00 00 00", "no 1"),      # the path 1, 2, 3 touches 1
+    (TWO_STEPS, (2, 3), "00 00", "no 0"),         # 2, 3 touches 2
+    (TWO_STEPS, (0, 3), "00", "no 0"),            # no k is below 1
+    (TWO_STEPS, (2, 3), "00", "yes 1"),
+    (TWO_STEPS, (0, 3), "00 00", "no 1"),
+    (TWO_STEPS, (3, 2), "00 00 00 00 00", "no 1"),
+    (TWO_STEPS, (3, 1), "00 00", "no 0"),         # nothing leads to 1
+    (TWO_STEPS, (0, 3), "00 00 00 00 00", "no 2"),
+    (TWO_STEPS, (0, 3), "00 00 00 00 00 00", "refused 11"),
+    (TWO_STEPS, (0, 3), "", "refused 11"),
+    (TWO_STEPS, (0, 3), "00 01", "refused 11"),
+    (TWO_STEPS, (0, 3), "04 00", "refused 11"),
+    (TWO_STEPS, (3, 3), "00", "refused 10"),
+    (TWO_STEPS, (0, 4), "00", "refused 10"),
+    (TWO_STEPS, (4, 0), "", "refused 10"),
+    (TWO_STEPS_HEAD_1_ZERO, (4, 4), "", "refused 5"),
+    (TWO_STEPS_HEAD_1_ZERO, (1, 3), "00 00", "refused 5"),
+    ("", (1, 3), "00 00", "refused 1"),
+    (TWO_STEPS_EDITION_2, (1, 3), "00 00", "yes 2"),
+    (TWO_STEPS_EDITION_2, (1, 3), "00 00 00", "no 1"),
+    (A_WRONG_OWNER, (0, 2), "00 00", "refused 15"),
+    (A_ALL_KINDS, (0, 2), "00 00", "yes 2"),
+    (A_ALL_KINDS, (2, 0), "02 02", "yes 2"),
+    (A_ALL_KINDS, (2, 0), "00 02", "no 1"),       # 02 holds from 1 to 0
+    (A_ALL_KINDS, (1, 0), "00 02", "no 0"),       # and from no other
+    (A_ALL_KINDS, (1, 0), "00 01", "yes 2"),
+    (A_ALL_KINDS, (1, 0), "01 01", "no 1"),       # 01 holds from 2 to 0, and from 2 to 1, not from 1 to 2
+    (A_ALL_KINDS, (1, 0), "01", "yes 1"),
+]
+
 # Each row: the call, the file, the pair, the rule list, the expected line.
 LIST_ROWS = [
     ("r", A, (0, 2), "00 00", "permit no"),
@@ -577,10 +617,20 @@ def file_case(row):
 def word_case(row):
     """The frame and the lines of a row of WORD_ROWS."""
     call, data, pair, word, room, answer, begins = row
-    symbols = bytes.fromhex(word)
-    given = script.given_bytes(len(symbols), symbols.ljust(script.SYMBOLS_GIVEN, b"\xBB"))
-    frame = script.word_frame(call, bytes.fromhex(data), *pair, given, fenced("", room))
+    frame = script.word_frame(call, bytes.fromhex(data), *pair, given_word(word), fenced("", room))
     return script.Case(frame, output_lines(call, answer, fenced(begins, room)))
+
+
+def given_word(word):
+    """The given bytes of a word in hexadecimal; the bytes after its symbols mean nothing."""
+    symbols = bytes.fromhex(word)
+    return script.given_bytes(len(symbols), symbols.ljust(script.SYMBOLS_GIVEN, b"\xBB"))
+
+
+def test_case(row):
+    """The frame and the line of a row of TEST_ROWS."""
+    data, pair, word, answer = row
+    return script.Case(script.test_frame(bytes.fromhex(data), *pair, given_word(word)), "%s %s\n" % (script.NAMES[script.TEST], answer))
 
 
 def fenced(begins, room):
@@ -614,7 +664,8 @@ def list_case(row):
 def cases():
     """All rows, as frames and their lines."""
     return ([file_case(row) for row in ROWS] + [word_case(row) for row in WORD_ROWS]
-            + [list_case(row) for row in LIST_ROWS] + [write_case(row) for row in WRITE_ROWS])
+            + [list_case(row) for row in LIST_ROWS] + [write_case(row) for row in WRITE_ROWS]
+            + [test_case(row) for row in TEST_ROWS])
 
 
 def reckoned(frame, known=None):
@@ -626,6 +677,8 @@ def reckoned(frame, known=None):
     if parts.call in (script.PATH, script.NEXT_WORD):
         return script.output_text(parts.call, *script.word_reply(
             parts.call, known, parts.first, parts.second, parts.given, parts.output))
+    if parts.call == script.TEST:
+        return script.test_text(brute.word_test_reply(known, parts.first, parts.second, script.word_of(parts.given)))
     if parts.call == script.PERMIT:
         return script.permit_text(brute.permit_reply(known, parts.first, parts.second, parts.given))
     if parts.call == script.TEXT:

@@ -1,4 +1,4 @@
-"""Tests of the test side itself: brute.py is held to the text of document 01 and of Tickets 1 to 3.
+"""Tests of the test side itself: brute.py is held to the text of document 01 and of Tickets 1 to 4.
 
     python3 -m unittest discover -s tests        (or: python3 tests/test_brute.py)
 """
@@ -16,10 +16,12 @@ import brute
 import comparing
 import files
 import large
+import large_word_test
 import run_cases
 import run_compare
 import run_paths
 import run_permit
+import run_word_test
 import run_write
 import script
 import stored
@@ -390,6 +392,85 @@ class Path(unittest.TestCase):
         self.assertIsNone(brute.least_path(house, 0, 2, (0, 0, 0)))
 
 
+class WordTest(unittest.TestCase):
+    """02's Ticket 4: beside yes or no a length."""
+
+    def answers(self, house, *rows):
+        """Each row: the pair, the word, whether it has it, the length."""
+        for first, second, word, has, length in rows:
+            self.assertEqual(brute.word_test(house, first, second, word), (has, length), (first, second, word))
+
+    def test_two_steps(self):
+        house = house_with(4, [(1, 2, 0), (2, 3, 0)], longest=5)
+        self.answers(house, (1, 3, (0, 0), True, 2), (0, 3, (0, 0, 0), False, 2), (0, 3, (0, 0, 0, 0), False, 2),
+                     (1, 3, (0, 0, 0), False, 1), (2, 3, (0, 0), False, 0), (0, 3, (0,), False, 0))
+        self.answers(house, (2, 3, (0,), True, 1), (0, 3, (0, 0), False, 1), (3, 1, (0, 0, 0), False, 0), (3, 2, (0, 0), False, 1),
+                     (0, 3, (0, 0, 0, 0, 0), False, 2))
+
+    def test_one_symbol(self):
+        # On no there is no k below 1, whoever has the symbol.
+        house = house_with(3, [(0, 2, 0), (1, 0, 0)], labels=2)
+        self.answers(house, (0, 2, (0,), True, 1), (1, 2, (0,), False, 0), (0, 2, (4,), False, 0), (2, 0, (0,), False, 0))
+
+    def test_a_longer_way_touches_the_first_party(self):
+        # To 4 lead 0, 1, 2, 4 and 3, 4; the first has three symbols.
+        house = house_with(5, [(0, 1, 0), (1, 2, 0), (2, 4, 0), (3, 4, 0)], longest=4)
+        four = (0, 0, 0, 0)
+        self.answers(house, (3, 4, four, False, 3), (0, 4, four, False, 2), (1, 4, four, False, 1), (2, 4, four, False, 1))
+        self.answers(house, (0, 4, four[1:], True, 3), (1, 4, four[2:], True, 2), (2, 4, four[2:], False, 1), (3, 4, four[1:], False, 2))
+
+    def test_the_first_symbol_counts_only_on_yes(self):
+        # 0 to 1 to 2 to 3, each step with another label.
+        house = house_with(4, [(0, 1, 0), (1, 2, 1), (2, 3, 2)], labels=3, longest=3)
+        self.answers(house, (0, 3, (0, 4, 8), True, 3), (0, 3, (4, 4, 8), False, 2), (0, 3, (0, 0, 8), False, 1),
+                     (0, 3, (0, 4, 4), False, 0), (1, 3, (0, 4, 8), False, 1), (2, 3, (0, 4, 8), False, 0))
+
+    def test_the_word_itself_of_another_pair(self):
+        # The whole word doesn't count, only its ends: 1, 2, 3 has 00.00, which is all of the word.
+        house = house_with(4, [(1, 2, 0), (2, 3, 0)])
+        self.answers(house, (0, 3, (0, 0), False, 1))
+
+    def test_no_party_twice(self):
+        # 0 and 1 each to the other, and 1 to 2: a walk to 2 could go on for ever.
+        house = house_with(4, [(0, 1, 0), (1, 0, 0), (1, 2, 0)], longest=6)
+        for k in range(1, 7):
+            self.answers(house, (3, 2, (0,) * k, False, min(k - 1, 2)))
+        # 2 and 1 each to the other: 2 stands at the end alone.
+        house = house_with(4, [(2, 1, 0), (1, 2, 0)], longest=6)
+        for k in range(1, 7):
+            self.answers(house, (3, 2, (0,) * k, False, min(k - 1, 1)))
+
+    def test_words_of_n_symbols_or_more(self):
+        # Every two parties are related: without the first, n - 1 parties have n - 2 steps.
+        for n in (2, 3, 4, 5):
+            house = house_with(n, [(a, b, 0) for a, b in large.all_pairs(n)], longest=31)
+            for k in range(1, 32):
+                self.answers(house, (0, 1, (0,) * k, k < n, k if k < n else n - 2))
+
+    def test_kinds(self):
+        # 0 to 1 alone. 01 holds for all other steps, 02 from 1 to 0, 03 for all but that.
+        house = house_with(3, [(0, 1, 0)], language=3, longest=4)
+        self.answers(house, (1, 0, (2,), True, 1), (2, 0, (1, 2), True, 2), (2, 0, (1, 1, 2), False, 1), (2, 0, (0, 2), False, 1),
+                     (1, 0, (1, 2), False, 0), (2, 1, (1, 0), True, 2), (2, 1, (0, 0), False, 1), (0, 1, (1, 0), False, 0),
+                     (0, 2, (3, 3, 3), False, 1), (0, 2, (0, 1), True, 2), (0, 2, (2, 1, 1), False, 1),
+                     (1, 2, (2, 3), True, 2), (1, 2, (0, 0, 1), False, 1))
+
+    def test_shorter_ends_are_had_too(self):
+        # What the definition asks of the greatest k holds of all lower ones.
+        rng = random.Random(51)
+        for _ in range(150):
+            matter = small_matter(rng)
+            house = brute.decode(files.lay_out(matter, rng).bytes())
+            for u, v in rng.sample(brute.pairs(house), min(2, len(brute.pairs(house)))):
+                listed = brute.paths_to(house, v)
+                word = tuple(rng.choices(brute.symbols(house), k=house.longest))
+                has, length = brute.word_test(house, u, v, word)
+                self.assertEqual((has, length), brute.word_test(house, u, v, word, listed))
+                self.assertEqual(has, word in brute.words(house, u, v))
+                for k in range(1, length if has else length + 1):
+                    self.assertTrue(any(has or u not in parties for parties in listed[word[-k:]]), (matter, u, v, word))
+
+
 class Mining(unittest.TestCase):
 
     def test_two_terms(self):
@@ -669,6 +750,19 @@ class RefusalOrder(unittest.TestCase):
         self.assertEqual(self.following(self.A, 0, 2, (), 31), ("length", 2))
         self.assertEqual(self.following(self.A, 0, 2, (0, 0), 31), ("none",))
 
+    def test_word_test(self):
+        self.assertEqual(brute.call_word_test(self.BAD_FILE, 9, 9, ()), ("refused", 2))
+        self.assertEqual(brute.call_word_test(b"", 9, 9, ()), ("refused", 1))
+        for pair in ((0, 0), (0, 3), (3, 0), (255, 0), (3, 3)):
+            self.assertEqual(brute.call_word_test(self.A, *pair, ()), ("refused", 10))
+            self.assertEqual(brute.call_word_test(self.A, *pair, (0,)), ("refused", 10))
+        for word in ((), (0, 0, 0), (0, 1), (4, 0), (0,) * 200):
+            self.assertEqual(brute.call_word_test(self.A, 0, 2, word), ("refused", 11))
+        for data in (self.A, self.A2):
+            self.assertEqual(brute.call_word_test(data, 0, 2, (0, 0)), ("yes", 2))
+            self.assertEqual(brute.call_word_test(data, 2, 0, (0, 0)), ("no", 0))
+            self.assertEqual(brute.call_word_test(data, 0, 2, (0,)), ("no", 0))
+
     def test_permit(self):
         self.assertEqual(brute.call_permit(self.BAD_FILE, b"", 9, 9), ("refused", 2))
         self.assertEqual(brute.call_permit(self.A, b"", 2, 2), ("refused", 10))
@@ -778,6 +872,21 @@ def words_by_permutations(matter, u, v):
     return found
 
 
+def word_test_by_permutations(matter, u, v, word):
+    """Yes or no, and the length: all choices of parties before v, with u at the front or nowhere."""
+    others = [party for party in range(matter.n) if party not in (u, v)]
+
+    def fits(parties, symbols):
+        return all(s in symbols_of_step(matter, a, b) for s, a, b in zip(symbols, parties, parties[1:]))
+
+    if any(fits((u, *middle, v), word) for middle in itertools.permutations(others, len(word) - 1)):
+        return True, len(word)
+    k = len(word) - 1
+    while k > 0 and not any(fits((*chosen, v), word[len(word) - k:]) for chosen in itertools.permutations(others, k)):
+        k -= 1
+    return False, k
+
+
 def has_word(data, pair, word):
     return brute.call_path(data, *pair, word, bytes(32))[0][0] == "parties"
 
@@ -880,6 +989,22 @@ class SecondReckonings(unittest.TestCase):
         wanted = (("none",), output) if following is None else \
             (("length", len(following)), bytes(following) + output[len(following):])
         self.assertEqual(brute.call_next_word(data, *pair, word, output), wanted)
+
+    def test_word_test(self):
+        rng = random.Random(19)
+        replies = {}
+        for _ in range(500):
+            matter = small_matter(rng)
+            known = brute.Known(files.lay_out(matter, rng).bytes())
+            for u, v in rng.sample(brute.pairs(known.house), min(3, len(brute.pairs(known.house)))):
+                for word in self.words_to_ask(rng, known.house, known.words(u, v)):
+                    wanted = word_test_by_permutations(matter, u, v, word)
+                    self.assertEqual(brute.word_test(known.house, u, v, word), wanted, (matter, u, v, word))
+                    reply = brute.word_test_reply(known, u, v, word)
+                    self.assertEqual(reply, ("yes" if wanted[0] else "no", wanted[1]))
+                    replies[reply] = replies.get(reply, 0) + 1
+        for reply in [("yes", k) for k in range(1, 5)] + [("no", k) for k in range(4)]:
+            self.assertGreater(replies[reply], 30, reply)
 
     def test_verdicts(self):
         rng = random.Random(12)
@@ -1205,6 +1330,93 @@ class WordCalls(GuardedCalls):
             self.assertEqual(script.output_text(call, reply, after), self.lines(name + " refused 1", ""))
 
 
+class WordTestCalls(unittest.TestCase):
+    """Frames and lines of the word test, and what the suite counts."""
+
+    def test_a_frame_by_hand(self):
+        given = script.given_bytes(2, hexadecimal("00 04" + 29 * " EE"))
+        made = script.test_frame(b"\x11\x12", 3, 4, given)
+        self.assertEqual(made, hexadecimal("74 03 04 00  02 00 00 00  20 00 00 00  00 00 00 00  00 00 00 00"
+                                           "  00 00 00 00  11 12  02 00 04" + 29 * " EE"))
+        self.assertEqual(script.parts_of(made), ("t", 3, 4, b"\x11\x12", given, b"", b""))
+        self.assertEqual(script.frame_of(script.parts_of(made)), made)
+        for length in (0, 31, 33):
+            with self.assertRaises(ValueError):
+                script.test_frame(b"", 0, 1, bytes(length))
+
+    def test_lines(self):
+        texts = [script.test_text(reply) for reply in (("yes", 2), ("no", 1), ("no", 0), ("refused", 10))]
+        self.assertEqual(texts, ["test yes 2\n", "test no 1\n", "test no 0\n", "test refused 10\n"])
+        self.assertEqual(comparing.compare(texts, "".join(texts)), ([], texts, 0))
+        self.assertEqual(comparing.compare(texts, "".join(texts).replace("no 1", "no 2"))[0], [1])
+
+    def occurrences(self, known, first, second, word):
+        asked = run_word_test.Asked(first, second, len(word), bytes(word) + bytes(31 - len(word)))
+        reply = brute.word_test_reply(known, first, second, word)
+        return set(run_word_test.occurrences(known, asked, reply, word))
+
+    def test_what_is_counted(self):
+        # To 4 lead 0, 1, 2, 4 and 3, 4; 2 and 1 each to the other.
+        known = brute.Known(file_with(5, [(0, 1, 0), (1, 2, 0), (2, 1, 0), (2, 4, 0), (3, 4, 0)], longest=31))
+        touched, walked = "the deepest way touches the first party", "a walk that repeats a party is longer"
+        lower, higher = "a lower party leads less far", "a higher party leads less far"
+        found = self.occurrences(known, 0, 4, (0,) * 4)
+        self.assertLessEqual({"no", "no with length 2", touched, walked, higher, "no in language 0"}, found)
+        self.assertFalse({lower, "word longer than n - 1", "length one below the word's"} & found)
+        found = self.occurrences(known, 3, 4, (0,) * 4)
+        self.assertLessEqual({"no with length 3", "length one below the word's"}, found)
+        self.assertFalse({touched, walked, higher, lower} & found)
+        found = self.occurrences(known, 2, 4, (0,) * 31)
+        self.assertLessEqual({"no with length 1", touched, "word longer than n - 1", "word of 31 symbols"}, found)
+        self.assertFalse({walked, higher, lower} & found)
+        self.assertIn("a word of another pair", self.occurrences(known, 3, 4, (0, 0)))
+        self.assertIn("yes with 3 symbols", self.occurrences(known, 0, 4, (0, 0, 0)))
+        # The same with 3 at the end of the longer one.
+        known = brute.Known(file_with(5, [(0, 1, 0), (1, 3, 0), (3, 4, 0), (2, 4, 0)], longest=4))
+        found = self.occurrences(known, 2, 4, (0,) * 4)
+        self.assertFalse({lower, higher, touched} & found)
+        known = brute.Known(file_with(6, [(0, 1, 0), (1, 3, 0), (3, 4, 0), (2, 4, 0)], longest=4))
+        self.assertIn(lower, self.occurrences(known, 5, 4, (0,) * 4))
+
+    def test_changed_symbols_are_counted(self):
+        known = brute.Known(file_with(4, [(0, 1, 0), (1, 2, 0), (2, 3, 0)], labels=2, longest=3))
+        names = ["a word of the pair but for " + what for what in ("its first symbol", "a symbol between", "its last symbol")]
+        for word, name in zip([(4, 0, 0), (0, 4, 0), (0, 0, 4)], names):
+            self.assertEqual(self.occurrences(known, 0, 3, word) & set(names), {name})
+        for word in ((4, 4, 0), (0, 0), (4,)):
+            self.assertFalse(self.occurrences(known, 0, 3, word) & set(names))
+
+    def test_refusals_are_counted(self):
+        known = brute.Known(file_with(4, [(0, 1, 0)], longest=3))
+        for first, second, word, name in (
+                (0, 0, (0,), "same party twice"), (4, 1, (0,), "first party too high"), (0, 4, (0,), "second party too high"),
+                (0, 4, (), "faults of pair and word"), (0, 4, (1,), "faults of pair and word"), (0, 1, (), "empty word"),
+                (0, 1, (0,) * 4, "longer than D"), (0, 1, (4,), "label too high"), (0, 1, (1,), "kind not of the language")):
+            refusal = "refused 10" if "part" in name or "pair" in name else "refused 11"
+            self.assertEqual(self.occurrences(known, first, second, word), {"frames", refusal, name})
+
+    def test_the_arguments_hold_for_few_parties(self):
+        rng = random.Random(52)
+        held = {}
+        for n, rounds in ((4, 3), (5, 2), (6, 1)):
+            known = {}
+            for row in [row for _ in range(rounds) for row in large_word_test.rows(rng, n)]:
+                if row.data not in known:
+                    known[row.data] = brute.Known(row.data)
+                house, symbols = known[row.data].house, max(len(on_step) for on_step in known[row.data].graph.values())
+                if run_paths.expected_paths(n, house.longest, symbols) < 10000:
+                    self.assertEqual(brute.word_test_reply(known[row.data], row.first, row.second, row.word), row.reply, (n, row))
+                    held[row.name] = held.get(row.name, 0) + 1
+        self.assertEqual(set(held), {row.name for row in large_word_test.rows(rng, 4)})
+
+    def test_all_larger_files_are_accepted(self):
+        made = {row.data for row in large_word_test.rows(random.Random(53), 32)}
+        for data in made:
+            self.assertEqual((brute.check(data), data[1], data[4]), (0, 32, 31))
+        self.assertEqual({data[3] for data in made}, {0, 1, 2, 3})
+        self.assertEqual({data[0] for data in made}, {1, 2})
+
+
 class WriteCalls(GuardedCalls):
     """Frames and lines of write."""
 
@@ -1460,6 +1672,8 @@ class Running(unittest.TestCase):
     def test_every_demand_is_missed_by_nothing(self):
         lines = run_paths.lacking(run_paths.Collection(random.Random(1)), [])
         self.assertEqual(len(lines), len(run_paths.DEMANDS) + 2)
+        lines = run_word_test.lacking(run_word_test.Collection(random.Random(1)), [])
+        self.assertEqual(len(lines), len(run_word_test.DEMANDS) + 2)
         lines = run_permit.lacking(run_permit.Collection(random.Random(1)))
         self.assertEqual(len(lines), len(run_permit.DEMANDS) + 2)
         lines = run_write.lacking(run_write.Collection(random.Random(1)))

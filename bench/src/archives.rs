@@ -23,7 +23,7 @@ pub struct Archive {
 }
 
 /// From, to, label; a permit has PERMIT_KIND.
-type Records = Vec<(usize, usize, usize)>;
+pub type Records = Vec<(usize, usize, usize)>;
 
 pub const KINDS: [&str; 9] = ["hierarchy", "teams", "chains", "layers", "loans", "star", "mirror", "school", "fixed"];
 const LONGEST: [usize; 5] = [2, 3, 4, 6, 31];
@@ -337,7 +337,7 @@ fn every_pair(parties: usize) -> Vec<(usize, usize)> {
     (0..parties).flat_map(|u| others(u).map(move |v| (u, v))).collect()
 }
 
-fn every_relation(parties: usize, labels: usize) -> Records {
+pub fn every_relation(parties: usize, labels: usize) -> Records {
     every_pair(parties).into_iter().flat_map(|(u, v)| (0..labels).map(move |label| (u, v, label))).collect()
 }
 

@@ -2,6 +2,7 @@
 //!
 //!     bench [--limit SECONDS] [--part K] [--kind NAME] [--draw N] [--files]    the table; bench/README.md says what it shows
 //!     bench --write FOLDER [--draw N]                                          writes the files, each by its number
+//!     bench --words                                                            the table of word tests, and nothing else
 //!     bench script                                                             path and next-word by the twin, from a script
 //!     bench permitconv                                                         the program permitconv by the twin
 //!
@@ -23,13 +24,14 @@ mod script;
 mod table;
 mod timing;
 mod twin;
+mod words;
 
 use answers::{ask, Who};
 use archives::Archive;
 use table::Row;
 
 const USAGE: &str = "usage: bench [--limit SECONDS] [--part K] [--kind NAME] [--draw N] [--files]
-       bench --write FOLDER [--draw N] | script | permitconv";
+       bench --write FOLDER [--draw N] | --words | script | permitconv";
 
 struct Options {
     limit: f64,
@@ -106,19 +108,27 @@ fn write_files(folder: &str, draw: u64) {
     }
 }
 
+/// Ends the program with 1 where something failed.
+fn end(well: bool) {
+    if !well {
+        std::process::exit(1);
+    }
+}
+
 fn main() {
     let arguments: Vec<String> = std::env::args().skip(1).collect();
     let words: Vec<&str> = arguments.iter().map(String::as_str).collect();
     match words[..] {
         ["script"] => script::run(),
         ["permitconv"] => permitconv::run(),
+        ["--words"] => end(words::run()),
         ["answer", who, limit] => answers::answer(who, limit),
         _ => {
             let options = options(&arguments);
             if let Some(folder) = &options.write {
                 write_files(folder, options.draw);
-            } else if !compare(&options) {
-                std::process::exit(1);
+            } else {
+                end(compare(&options));
             }
         }
     }

@@ -11,6 +11,8 @@ const FIRST_KIND: u64 = 128;
 pub const CONVERTIBLE: u64 = FIRST_KIND;
 pub const NO_WORD: u64 = FIRST_KIND + 1;
 pub const RIVAL: u64 = FIRST_KIND + 2;
+pub const NO: u64 = FIRST_KIND;
+pub const YES: u64 = FIRST_KIND + 1;
 
 fn place(number: usize, byte: u32) -> u64 {
     (number as u64) << (8 * byte)

@@ -126,7 +126,7 @@ fn shown(number: Option<f64>) -> String {
     number.map_or("-".into(), |number| format!("{number:.2}"))
 }
 
-fn median(ratios: &mut [f64]) -> Option<f64> {
+pub fn median(ratios: &mut [f64]) -> Option<f64> {
     ratios.sort_by(f64::total_cmp);
     ratios.get(ratios.len() / 2).copied()
 }

@@ -10,18 +10,25 @@ use crate::print::hex_bytes;
 use crate::print::line;
 use crate::print::text;
 use crate::refused;
+use crate::tested;
 use crate::written;
 use limits::WORD_CAPACITY;
 use paths::WordReply;
 use search::Word;
 
-// Whether a call has more than a file: a word and an output, an output, or a rule list.
+// Whether a call has more than a file: a word, with an output or without, an output, or a rule list.
 pub fn has_more(call: u8) -> bool {
-    call == b'p' || call == b'n' || call == b'w' || call == b'r' || call == b'm' || call == b'x'
+    call == b'p'
+        || call == b'n'
+        || call == b't'
+        || call == b'w'
+        || call == b'r'
+        || call == b'm'
+        || call == b'x'
 }
 
 // The word of a frame: its length, then 31 symbols.
-fn word_of(given: &[u8; 32]) -> Word {
+pub fn word_of(given: &[u8; 32]) -> Word {
     let mut symbols = [0u8; WORD_CAPACITY];
     let mut i = 0;
     while i < WORD_CAPACITY {
@@ -73,6 +80,9 @@ fn answer(f: Frame, file: &[u8], w: Word, space: &mut [u8], end: usize)
 pub fn run(f: Frame, file: &[u8]) -> bool {
     if f.call == b'p' || f.call == b'n' {
         return run_word(f, file);
+    }
+    if f.call == b't' {
+        return tested::run_test(f, file);
     }
     if f.call == b'w' {
         return written::run_write(f, file);

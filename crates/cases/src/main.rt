@@ -12,6 +12,7 @@ mod calls;
 mod frame;
 mod listed;
 mod print;
+mod tested;
 mod written;
 
 use frame::Frame;

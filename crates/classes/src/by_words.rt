@@ -11,7 +11,7 @@ ghost use Rattle.classes.specs.promises.Prefixes.{WordsQuery, LengthsQue
 use crate::seek::first_telling;
 use letters::Letters;
 use masks::Table;
-use search::has_word;
+use word_test::has_word;
 use words::Next;
 use words::complete_from;
 use words::next_same_length;

@@ -10,14 +10,9 @@ use lib.Dec.{leb, ltb}
 use lib.ListN.{length, length-append}
 use borrow.Author.Tests.{lt-ltb, le-ltb, ltb-true, le-leb, leb-true, leb-false}
 use Rattle.lists.specs.Lists.{anyOf, filterBy, firstBy, flatMap, upFrom, range}
-use Rattle.lists.specs.Order.{Ascending, Distinct, firstElement, sumOf}
+use Rattle.lists.specs.Order.{Ascending, Distinct, firstElement, onlyIf, sumOf, greatestOf}
 use Rattle.lists.proofs.Cases.{by-test, by-found, by-mem, by-append, clash, both}
 use Rattle.lists.proofs.ListLaws.{First, filter-out, map-out, flat-out, up-out, find-none, find-none-of, find-some, find-in}
-
--- k where the test passes, else 0
-abbrev pub onlyIf : Bool → ℕ → ℕ
-onlyIf true k = k
-onlyIf false k = 0
 
 module _ {A : Type 0} where
   pub ascending-append : (R : A → A → Bool) (l m : List A) → Ascending R l → Ascending R m
@@ -127,6 +122,36 @@ module _ {A : Type 0} where
       let b : sumOf f l ≤ sumOf g l = sum-mono f g l (λ y m. h y (List·Memᴰ·tail m)) in
       omega arith
 
+  -- and the same where every summand is
+  pub sum-same : (f g : A → ℕ) (l : List A) → ((x : A) → List·Memᴰ x l → f x ≡ g x) → sumOf f l ≡ sumOf g l
+  unfolding sumOf
+  sum-same f g [] h = refl
+  sum-same f g (x ∷ l) h = rw (h x (List·Memᴰ·head refl), sum-same f g l (λ y m. h y (List·Memᴰ·tail m)))
+
+  pub sum-none : (f : A → ℕ) (l : List A) → ((x : A) → List·Memᴰ x l → f x ≡ 0) → sumOf f l ≡ 0
+  unfolding sumOf
+  sum-none f [] h = refl
+  sum-none f (x ∷ l) h =
+      let a : f x ≡ 0 = h x (List·Memᴰ·head refl) in
+      let b : sumOf f l ≡ 0 = sum-none f l (λ y m. h y (List·Memᴰ·tail m)) in
+      omega arith
+
+  -- of different elements only one has a value: that value is the sum
+  pub sum-only : (f : A → ℕ) (l : List A) (x : A) → Distinct l → List·Memᴰ x l
+      → ((y : A) → (y ≡ x → ⊥) → f y ≡ 0) → sumOf f l ≡ f x
+  unfolding sumOf
+  sum-only f [] x d m h = absurd (List·Memᴰ·not-nil m)
+  sum-only f (y ∷ l) x d m h =
+      by-mem m
+      (λ e.
+      let a : sumOf f l ≡ 0 = sum-none f l (λ z n. h z (λ q. d .0 (rw (← e, ← q) n))) in
+      let b : f y ≡ f x = ap f (sym e) in
+      omega arith)
+      (λ n.
+      let a : f y ≡ 0 = h y (λ q. d .0 (rw q n)) in
+      let b : sumOf f l ≡ f x = sum-only f l x (d .1) n h in
+      omega arith)
+
   pub sum-any : (f : A → ℕ) (p : A → Bool) (l : List A) → ((x : A) → leb 1 (f x) ≡ p x) → leb 1 (sumOf f l) ≡ anyOf p l
   unfolding sumOf anyOf
   sum-any f p [] e = refl
@@ -140,6 +165,31 @@ module _ {A : Type 0} where
   unfolding sumOf filterBy
   sum-filter f p [] = refl
   sum-filter f p (x ∷ l) = by-test (p x) (λ q. rw (q, filterBy, sum-filter f p l)) (λ q. rw (q, filterBy) (omega (arith, sum-filter f p l)))
+
+-- the greatest value: no less than each, one of them, and no more than a bound of all
+module _ {A : Type 0} (f : A → ℕ) where
+  pub greatest-least : (l : List A) {x : A} → List·Memᴰ x l → f x ≤ greatestOf f l
+  unfolding greatestOf
+  greatest-least [] m = absurd (List·Memᴰ·not-nil m)
+  greatest-least (y ∷ l) m = by-mem m (λ e. rw e (omega arith)) (λ n. omega (arith, greatest-least l n))
+
+  pub greatest-at : (l : List A) (k : ℕ) → 1 ≤ k → k ≤ greatestOf f l → (x : A) × List·Memᴰ x l × (k ≤ f x)
+  unfolding greatestOf
+  greatest-at [] k h e = absurd (omega arith)
+  greatest-at (y ∷ l) k h e =
+      by-test (leb k (f y))
+      (λ q. (y, List·Memᴰ·head refl, leb-true k (f y) q))
+      (λ q. let r = greatest-at l k h (omega (arith, leb-false k (f y) q)) in (r .0, List·Memᴰ·tail (r .1), r .2))
+
+  pub greatest-most : (l : List A) (k : ℕ) → ((x : A) → List·Memᴰ x l → f x ≤ k) → greatestOf f l ≤ k
+  unfolding greatestOf
+  greatest-most [] k h = omega arith
+  greatest-most (y ∷ l) k h = omega (arith, h y (List·Memᴰ·head refl), greatest-most l k (λ x m. h x (List·Memᴰ·tail m)))
+
+pub greatest-same : {A : Type 0} (f g : A → ℕ) (l : List A) → ((x : A) → List·Memᴰ x l → f x ≡ g x) → greatestOf f l ≡ greatestOf g l
+unfolding greatestOf
+greatest-same f g [] h = refl
+greatest-same f g (x ∷ l) h = rw (h x (List·Memᴰ·head refl), greatest-same f g l (λ y m. h y (List·Memᴰ·tail m)))
 
 pub ascending-map : {A B : Type 0} (R : A → A → Bool) (Q : B → B → Bool) (f : A → B)
     → ((x y : A) → R x y ≡ true → Q (f x) (f y) ≡ true) → (l : List A) → Ascending R l → Ascending Q (map f l)

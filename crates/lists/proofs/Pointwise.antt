@@ -3,13 +3,13 @@ use mathlib.Core.Path.{_≡_, refl, sym, ap, _∙_}
 use mathlib.Core.Bool.{Bool, true, false, _&&_}
 use mathlib.Core.List.{List, [], _∷_, _++_, map, append-nil, List·Memᴰ, List·Memᴰ·head, List·Memᴰ·tail, List·Memᴰ·not-nil}
 use mathlib.Core.Option.{some}
-use Prim.Native.Nat.{ℕ, zero, suc, _+_, _-_, _≤_, _<_}
+use Prim.Native.Nat.{ℕ, zero, suc, _+_, _-_, _≤_, _<_, max}
 use native.Mathlib.Omega.{arith}
 use native.Mathlib.Numerals.{add-one}
 use lib.ListN.{length, getD, take}
 use lib.Seq.{take-suc}
 use Rattle.lists.specs.Lists.{filterBy, firstBy, flatMap, upFrom, range}
-use Rattle.lists.specs.Order.{Distinct}
+use Rattle.lists.specs.Order.{Distinct, sumOf, greatestOf}
 use Rattle.lists.proofs.Cases.{by-test, by-mem, clash}
 use Rattle.lists.proofs.Distinct.{distinct-most}
 use Rattle.lists.proofs.ListLaws.{up-out, up-length, range-in}
@@ -135,3 +135,36 @@ pub getD-below : (bound : ℕ) → 0 < bound → (l : List ℕ) → ((x : ℕ) �
 getD-below bound h [] f i = h
 getD-below bound h (x ∷ l) f zero = f x (List·Memᴰ·head refl)
 getD-below bound h (x ∷ l) f (suc i) = getD-below bound h l (λ y m. f y (List·Memᴰ·tail m)) i
+
+-- one number more in a range, and the longer range has no less
+module _ (f : ℕ → ℕ) where
+  sum-append : (l m : List ℕ) → sumOf f (l ++ m) ≡ sumOf f l + sumOf f m
+  unfolding sumOf
+  sum-append [] m = omega arith
+  sum-append (x ∷ l) m = omega (arith, sum-append l m)
+
+  greatest-append : (l m : List ℕ) → greatestOf f (l ++ m) ≡ max (greatestOf f l) (greatestOf f m)
+  unfolding greatestOf
+  greatest-append [] m = omega arith
+  greatest-append (x ∷ l) m = omega (arith, greatest-append l m)
+
+  range-next : (n : ℕ) → range (n + 1) ≡ range n ++ (n ∷ [])
+  unfolding range upFrom
+  range-next n = up-append 0 n 1 ∙ let e : 0 + n ≡ n = omega arith in rw e
+
+  pub sum-next : (n : ℕ) → sumOf f (range (n + 1)) ≡ sumOf f (range n) + f n
+  unfolding sumOf
+  sum-next n = ap (sumOf f) (range-next n) ∙ sum-append (range n) (n ∷ []) ∙ omega arith
+
+  pub greatest-next : (n : ℕ) → greatestOf f (range (n + 1)) ≡ max (greatestOf f (range n)) (f n)
+  unfolding greatestOf
+  greatest-next n = ap (greatestOf f) (range-next n) ∙ greatest-append (range n) (n ∷ []) ∙ omega arith
+
+  pub sum-longer : (n m : ℕ) → n ≤ m → sumOf f (range n) ≤ sumOf f (range m)
+  unfolding range
+  sum-longer n m h =
+      let e : n + (m - n) ≡ m = omega arith in
+      let z : sumOf f (upFrom 0 m) ≡ sumOf f (upFrom 0 n) + sumOf f (upFrom (0 + n) (m - n)) =
+      ap (λ (k : ℕ). sumOf f (upFrom 0 k)) (sym e) ∙ ap (sumOf f) (up-append 0 n (m - n))
+      ∙ sum-append (upFrom 0 n) (upFrom (0 + n) (m - n)) in
+      omega (arith, z)

@@ -77,7 +77,7 @@ fn extend_term(
         while left > 0 {
             let r = rule_bytes::read_word(out, place);
             let word = r.word;
-            if !search::has_word(a.graph, a.parties, u, v, word) {
+            if !word_test::has_word(a.graph, a.parties, u, v, word) {
                 continue 'pairs;
             }
             place = r.next;

@@ -44,7 +44,7 @@ fn lacked_among(a: Archive, u: usize, v: usize, list: &[u8], kept: Kept) -> Next
     while left > 0 {
         let r = rule_bytes::read_word(list, place);
         w = r.word;
-        if !search::has_word(a.graph, a.parties, u, v, w) {
+        if !word_test::has_word(a.graph, a.parties, u, v, w) {
             return Next {
                 found: true,
                 word: w,
@@ -88,7 +88,7 @@ fn lacked_onward(
         add_word(list, 0, end, number, w);
         end = end + 1 + w.len;
         number += 1;
-        if !search::has_word(a.graph, a.parties, u, v, w) {
+        if !word_test::has_word(a.graph, a.parties, u, v, w) {
             return Lacked {
                 next: c,
                 kept: Kept { number, end },

@@ -51,7 +51,7 @@ pub fn lacked_after(a: Archive, first: usize, second: usize, u: usize, v: usize,
     let mut c = words::next_word(a.graph, a.parties, first, second, a.longest, had);
     while c.found {
         let w = c.word;
-        if !search::has_word(a.graph, a.parties, u, v, w) {
+        if !word_test::has_word(a.graph, a.parties, u, v, w) {
             return c;
         }
         if passed >= WORDS_BEFORE_CLASSES {

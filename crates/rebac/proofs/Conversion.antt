@@ -11,10 +11,10 @@ use lib.Dec.{leb}
 use lib.ListN.{length}
 use borrow.Author.Tests.{le-leb, leb-true}
 use Rattle.lists.specs.Lists.{allOf, anyOf}
-use Rattle.lists.specs.Order.{Ascending, Distinct}
+use Rattle.lists.specs.Order.{Ascending, Distinct, onlyIf}
 use Rattle.lists.proofs.Cases.{by-test}
 use Rattle.lists.proofs.ListLaws.{map-out}
-use Rattle.lists.proofs.OrderLaws.{onlyIf, length-map, ascending-filter, ascending-distinct}
+use Rattle.lists.proofs.OrderLaws.{length-map, ascending-filter, ascending-distinct}
 use Rattle.rebac.specs.Matter.{Matter, Pair, pairsOf, permitted}
 use Rattle.rebac.specs.Words.{Word, before}
 use Rattle.rebac.specs.Paths.{has, HasPath}

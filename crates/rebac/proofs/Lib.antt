@@ -21,5 +21,8 @@ pub mod SearchLaws
 pub mod CarriedLaws
 pub mod MatterLaws
 pub mod MarkedLaws
+pub mod BackwardLaws
+pub mod WordTestLaws
+pub mod ReversedLaws
 pub mod OptionLaws
 pub mod AlikeLaws

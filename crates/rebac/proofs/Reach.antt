@@ -10,11 +10,11 @@ use lib.Dec.{eqb, leb, ltb}
 use lib.ListN.{length}
 use borrow.Author.Tests.{eqb-true, eq-eqb, not-true, le-leb, leb-true, leb-false, lt-leb}
 use Rattle.lists.specs.Lists.{anyOf, filterBy, member, range}
-use Rattle.lists.specs.Order.{Ascending, Distinct, sumOf}
+use Rattle.lists.specs.Order.{Ascending, Distinct, onlyIf, sumOf}
 use Rattle.lists.proofs.Cases.{by-test, by-mem, clash, both, and-left, and-right}
 use Rattle.lists.proofs.ListLaws.{filter-in, filter-out, flat-in, flat-out, map-in, map-out, member-in, member-not, range-in, range-out}
 use Rattle.lists.proofs.OrderLaws.{ascending-filter, ascending-distinct, range-ascending, head-least, head-in}
-use Rattle.lists.proofs.OrderLaws.{head-none, sum-any, sum-filter, onlyIf, length-map, length-flat}
+use Rattle.lists.proofs.OrderLaws.{head-none, sum-any, sum-filter, length-map, length-flat}
 use Rattle.rebac.specs.Matter.{Pair}
 use Rattle.rebac.specs.Words.{lexLess}
 use Rattle.rebac.proofs.LexOrder.{lex-irreflexive, cons-ascending, flat-ascending}

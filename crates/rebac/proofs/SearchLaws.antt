@@ -10,10 +10,10 @@ use lib.Dec.{eqb, leb}
 use lib.ListN.{length}
 use borrow.Author.Tests.{ne-eqb, eqb-true, eq-eqb}
 use Rattle.lists.specs.Lists.{anyOf, flatMap, member, range}
-use Rattle.lists.specs.Order.{firstElement, sumOf}
+use Rattle.lists.specs.Order.{firstElement, onlyIf, sumOf}
 use Rattle.lists.proofs.Cases.{by-test, by-mem, both, and-left, and-right, and-both, and-false}
 use Rattle.lists.proofs.ListLaws.{any-in, any-none, any-same, filter-out, range-in, range-out}
-use Rattle.lists.proofs.OrderLaws.{onlyIf, sum-mono, length-map}
+use Rattle.lists.proofs.OrderLaws.{sum-mono, length-map}
 use Rattle.lists.proofs.Pointwise.{filter-same, filter-range, flat-same, distinct-short}
 use Rattle.rebac.specs.Matter.{Pair}
 use Rattle.rebac.specs.Paths.{Graph, Path, has, candidates, routes, pathsOf, leastPath, pathCount}

@@ -1,6 +1,7 @@
 pub mod Matter
 pub mod Words
 pub mod Paths
+pub mod WordTest
 pub mod Symbols
 pub mod TriplePaths
 pub mod Rules

@@ -3,5 +3,6 @@
 pub mod WhileMining
 pub mod Forms
 pub mod Marked
+pub mod Backward
 pub mod Options
 pub mod Telling

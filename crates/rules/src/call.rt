@@ -49,7 +49,7 @@ pub fn meets_term(
         let r = read_word(list, place);
         if met {
             let word = r.word;
-            met = search::has_word(g, n, first, second, word);
+            met = word_test::has_word(g, n, first, second, word);
         }
         place = r.next;
         left -= 1;

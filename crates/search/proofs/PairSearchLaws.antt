@@ -65,10 +65,6 @@ module _ (n : ℕ) (t : Table) where
   routes-fixed [] seen a b = refl
   routes-fixed (s ∷ w) seen a b = flat-same _ _ _ (λ c. rw (routes-fixed w (c ∷ seen) c b))
 
-  pub has-fixed : (p : Pair) (w : List ℕ) → has (maskGraph n t) p (map exactly w) ≡ has (tableGraph n t) p w
-  unfolding has pathsOf
-  has-fixed p w = rw (routes-fixed w (p .first ∷ []) (p .first) (p .second))
-
   pub least-fixed : (p : Pair) (w : List ℕ) → leastPath (maskGraph n t) p (map exactly w) ≡ leastPath (tableGraph n t) p w
   unfolding leastPath pathsOf
   least-fixed p w = rw (routes-fixed w (p .first ∷ []) (p .first) (p .second))

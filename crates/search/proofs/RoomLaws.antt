@@ -73,12 +73,29 @@ marked-ones mask (suc k) a =
     (λ e. rw (e, filterBy) (omega (arith, eqb-true (mask / 2 ^ a % 2) 1 e)))
     (λ e. rw (e, filterBy) (omega arith))
 
-count-ones : (n all more : ℕ) → count n all more ≤ ones all
+pub count-ones : (n all more : ℕ) → count n all more ≤ ones all
 unfolding count free range
 count-ones n all more =
     let m : length (filterBy (testBit all) (upFrom 0 n)) ≤ ones (all / 2 ^ 0) = marked-ones all n 0 in
     let o : ones (all / 2 ^ 0) ≡ ones all = ap ones (div-one all) in
     omega (arith, filter-fewer (free all more) (testBit all) (upFrom 0 n) (λ x k e. and-left (testBit all x) _ e))
+
+-- one place more: a party there is one of the mask, and is passed
+pub fewer : (n all more union v : ℕ) → Within all union → v < n → testBit union v ≡ true → testBit more v ≡ false
+    → count n all (withBit more v) < count n union more
+unfolding count free
+fewer n all more union v a h e o =
+    filter-strictly (free all (withBit more v)) (free union more) (range n)
+    (λ c m f. and-both (a c (and-left (testBit all c) _ f)) (ap not (unpassed c (and-right (testBit all c) _ f))))
+    (range-in n v h) (rw (test-with-same more v) (and-false (testBit all v) refl)) (and-both e (ap not o))
+  where
+    unpassed : (c : ℕ) → not (testBit (withBit more v) c) ≡ true → testBit more c ≡ false
+    unpassed c f =
+        by-test (testBit more c)
+        (λ g. by-cases (ℕ-discrete c v)
+        (λ q. both g (rw q o))
+        (λ q. both f (ap not (test-with-other more v c q ∙ g))))
+        (λ g. g)
 
 -- where the mask has fewer parties that are not passed than there are places there is no path
 abbrev pub Crowded : ℕ → Table → ℕ → List Place → ℕ → ℕ → Type 0
@@ -90,23 +107,6 @@ module _ (n : ℕ) (t : Table) (target visited : ℕ) where
   pub crowded-end : (all : ℕ) → Crowded n t target [] visited all
   crowded-end all v h more p o k = absurd (omega arith)
 
-  -- one place more: a party there is one of the mask, and is passed
-  fewer : (all more union v : ℕ) → Within all union → v < n → testBit union v ≡ true → testBit more v ≡ false
-      → count n all (withBit more v) < count n union more
-  unfolding count free
-  fewer all more union v a h e o =
-      filter-strictly (free all (withBit more v)) (free union more) (range n)
-      (λ c m f. and-both (a c (and-left (testBit all c) _ f)) (ap not (unpassed c (and-right (testBit all c) _ f))))
-      (range-in n v h) (rw (test-with-same more v) (and-false (testBit all v) refl)) (and-both e (ap not o))
-    where
-      unpassed : (c : ℕ) → not (testBit (withBit more v) c) ≡ true → testBit more c ≡ false
-      unpassed c f =
-          by-test (testBit more c)
-          (λ g. by-cases (ℕ-discrete c v)
-          (λ q. both g (rw q o))
-          (λ q. both f (ap not (test-with-other more v c q ∙ g))))
-          (λ g. g)
-
   pub crowded-step : (x : Place) (xs : List Place) (mask all union : ℕ) → Within all union → Within mask union
       → Covers n t target (x ∷ xs) visited mask n → Crowded n t target xs visited all → Crowded n t target (x ∷ xs) visited union
   crowded-step x xs mask all union a m cover crowded v h more p o k =
@@ -115,7 +115,7 @@ module _ (n : ℕ) (t : Table) (target visited : ℕ) where
       (λ c b. by-test (testBit (withBit more v) c)
       (λ q. through-visited n t (withBit more v) v target x xs c q)
       (λ q. through-lost n t (withBit more v) v target x xs c
-      (crowded c b (withBit more v) (within-with visited more v p) q (omega (arith, k, fewer all more union v a h (m v e) o))))))
+      (crowded c b (withBit more v) (within-with visited more v p) q (omega (arith, k, fewer n all more union v a h (m v e) o))))))
       (λ e. cover v h e more p o)
 
   pub crowded-none : (xs : List Place) (all : ℕ) → ones all < length xs → Crowded n t target xs visited all

@@ -1,4 +1,4 @@
-// The search over the enlarged graph, one for all its uses, and the word test.
+// The search over the enlarged graph from a pair's first party on, for paths and for forms of words.
 mod last;
 mod pair;
 mod pairs;
@@ -6,7 +6,6 @@ mod search;
 mod walk;
 mod word;
 
-pub use pair::has_word;
 pub use pair::search_pair;
 pub use pairs::walk_pairs;
 pub use search::Found;

@@ -1,11 +1,8 @@
-// A search for a pair, and the word test.
-ghost use mathlib.Core.Path.{_≡_};
+// A search for a pair.
 ghost use Rattle.masks.specs.promises.Mask.{withBit};
-ghost use Rattle.rebac.specs.Matter.{pair};
-ghost use Rattle.rebac.specs.Paths.{has};
 ghost use Rattle.search.specs.Word.{symbolsIn};
 ghost use Rattle.search.specs.promises.Search.{formOf, FoundAs};
-ghost use Rattle.search.specs.promises.PairSearch.{PairQuery, tableGraph, searchPair};
+ghost use Rattle.search.specs.promises.PairSearch.{PairQuery, searchPair};
 use crate::search::Found;
 use crate::search::candidate_search;
 use crate::search::none;
@@ -35,13 +32,4 @@ pub fn search_pair(g: Table, n: usize, first: usize, second: usize, w: Word, fix
         masks::with(0, first as u32),
         0,
     )
-}
-
-// Whether the pair has the word.
-pub fn has_word(g: Table, n: usize, first: usize, second: usize, w: Word) -> bool
-    requires { ⌜ PairQuery n first second w ⌝ }
-    ensures { λ r. ⌜ r ≡ has (tableGraph n g) (pair first second) (symbolsIn w) ⌝ }
-{
-    let f = search_pair(g, n, first, second, w, w.len);
-    f.found
 }
