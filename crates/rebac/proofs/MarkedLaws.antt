@@ -49,7 +49,8 @@ some-length (x ∷ l) = sym (le-leb 1 (suc (length l)) (omega arith))
 
 module _ {S K : Type 0} (g : Graph S) (seen : ℕ → K → Bool) (mark : ℕ → K → K)
     (marks : (c d : ℕ) (v : K) → c < g .parties → d < g .parties → seen c (mark d v) ≡ (eqb c d || seen c v)) where
-  marks-more : (v : K) (past : List ℕ) (d : ℕ) → d < g .parties
+  -- one party more is marked
+  pub marks-more : (v : K) (past : List ℕ) (d : ℕ) → d < g .parties
       → PartyMarks (g .parties) seen v past → PartyMarks (g .parties) seen (mark d v) (d ∷ past)
   unfolding anyOf
   marks-more v past d l m c k = marks c d v k l ∙ rw (m c k)

@@ -24,6 +24,7 @@ use Rattle.rebac.specs.promises.Marked.{PartyMarks}
 use Rattle.rebac.proofs.Reach.{reach, SimpleWalk, Onward, path-walk, walk-path, routes-count, routes-reach, reach-in, reach-out}
 use Rattle.rebac.proofs.Reach.{walks-in, walks-out, paths-distinct}
 use Rattle.rebac.proofs.SearchLaws.{reach-seen}
+use Rattle.rebac.proofs.MarkedLaws.{marks-more}
 use Rattle.rebac.proofs.BackwardLaws.{depth-most, depth-way, way-depth}
 use Rattle.rebac.proofs.WordTestLaws.{from-one, last-cons, length-way, way-length}
 
@@ -141,11 +142,6 @@ module _ {S : Type 0} (g : Graph S) where
 
 module _ {S K : Type 0} (g : Graph S) (seen : ℕ → K → Bool) (mark : ℕ → K → K)
     (marks : (c d : ℕ) (v : K) → c < g .parties → d < g .parties → seen c (mark d v) ≡ (eqb c d || seen c v)) where
-  marks-more : (v : K) (past : List ℕ) (d : ℕ) → d < g .parties
-      → PartyMarks (g .parties) seen v past → PartyMarks (g .parties) seen (mark d v) (d ∷ past)
-  unfolding anyOf
-  marks-more v past d l m c k = marks c d v k l ∙ rw (m c k)
-
   marks-swap : (v : K) (past : List ℕ) (x y : ℕ)
       → PartyMarks (g .parties) seen v (x ∷ y ∷ past) → PartyMarks (g .parties) seen v (y ∷ x ∷ past)
   unfolding anyOf
@@ -177,7 +173,7 @@ module _ {S K : Type 0} (g : Graph S) (seen : ℕ → K → Bool) (mark : ℕ �
         candidate-same v past b c _ _ t m l
         (λ e. routes-seen (turned g) (c ∷ past) c a r s (List·Memᴰ·head (sym (eqb-true c a e))))
         (λ e. count-routes r (mark c v) (c ∷ past) c (still-fresh past c e f)
-        (marks-swap (mark c v) past c a (marks-more v (a ∷ past) c l m))))
+        (marks-swap (mark c v) past c a (marks-more g seen mark marks v (a ∷ past) c l m))))
         ∙ sym (routes-count (turned g) past b a t (r ++ (s ∷ [])))
 
   -- with the two parties marked, the ways back to a party that the word's first symbol leads to from the first party are the paths
@@ -205,7 +201,7 @@ module _ {S K : Type 0} (g : Graph S) (seen : ℕ → K → Bool) (mark : ℕ �
       let l : c < g .parties = range-out (g .parties) (x .1) in
       let may : (not (seen c v) && g .edge c b s) ≡ true = and-left (mayPrecede g seen mark v b s c) _ (x .2) in
       let fresh : not (member c past) ≡ true = ap not (sym (m c l)) ∙ and-left (not (seen c v)) _ may in
-      let k = way-reach r (mark c v) (c ∷ past) c l (marks-more v past c l m) (and-right (mayPrecede g seen mark v b s c) _ (x .2)) in
+      let k = way-reach r (mark c v) (c ∷ past) c l (marks-more g seen mark marks v past c l m) (and-right (mayPrecede g seen mark v b s c) _ (x .2)) in
       (k .0, k .1, any-in _ (range (g .parties)) (x .1) (and-both fresh (and-both (and-right (not (seen c v)) _ may) (k .2))))
 
   reach-way : (r : List S) (v : K) (past : List ℕ) (b a : ℕ) → PartyMarks (g .parties) seen v past
@@ -220,7 +216,7 @@ module _ {S K : Type 0} (g : Graph S) (seen : ℕ → K → Bool) (mark : ℕ �
       let on = and-right (not (member c past)) _ (x .2) in
       any-in _ (range (g .parties)) (x .1)
       (and-both (and-both fresh (and-left (g .edge c b s) _ on))
-      (reach-way r (mark c v) (c ∷ past) c a (marks-more v past c l m) (and-right (g .edge c b s) _ on)))
+      (reach-way r (mark c v) (c ∷ past) c a (marks-more g seen mark marks v past c l m) (and-right (g .edge c b s) _ on)))
 
   module _ (p : Pair) (i : IsPair (g .parties) p) (v : K) (m : PartyMarks (g .parties) seen v (p .second ∷ p .first ∷ [])) where
     -- so it is a path to the second party that does not touch the first

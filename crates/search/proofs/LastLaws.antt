@@ -22,23 +22,19 @@ use Rattle.rebac.specs.promises.Forms.{Place}
 use Rattle.rebac.specs.promises.Marked.{prepend}
 use Rattle.search.specs.promises.Search.{placeOn, placeAt, placesFrom, searchFrom, FoundAs}
 use Rattle.search.specs.promises.Walk.{FirstStep}
-use Rattle.search.specs.promises.Last.{lastPlace, Ends, TwoStepsQuery}
+use Rattle.search.specs.promises.Last.{without, lastPlace, Ends, TwoStepsQuery}
 use Rattle.search.specs.declared.word.Word.{Word}
 use Rattle.search.specs.declared.search.Found.{Found}
 use Rattle.search.proofs.SearchLaws.{through, search-last, search-none, search-hit, places-two, found-last, found-onto}
 use Rattle.search.proofs.SearchLaws.{through-visited, through-not, through-lost, through-on, through-target}
 
--- what the code computes, `(a | b) ^ b`: the places of a that b lacks
-abbrev pub less : ℕ → ℕ → ℕ
-less a b = bitXor (bitOr a b) b
-
-less-bit : (a b k : ℕ) → bitAt (less a b) k ≡ bitXor (bitOr (bitAt a k) (bitAt b k)) (bitAt b k)
+less-bit : (a b k : ℕ) → bitAt (without a b) k ≡ bitXor (bitOr (bitAt a k) (bitAt b k)) (bitAt b k)
 less-bit a b k =
     ap (λ (x : ℕ). x % 2) (xor-shr (bitOr a b) b k ∙ ap (λ (x : ℕ). bitXor x (b / 2 ^ k)) (or-shr a b k))
     ∙ xor-mod (bitOr (a / 2 ^ k) (b / 2 ^ k)) (b / 2 ^ k) 1
     ∙ ap (λ (x : ℕ). bitXor x (bitAt b k)) (or-mod (a / 2 ^ k) (b / 2 ^ k) 1)
 
-less-digit : (x y : ℕ) → x < 2 → y < 2 → eqb (less x y) 1 ≡ (eqb x 1 && not (eqb y 1))
+less-digit : (x y : ℕ) → x < 2 → y < 2 → eqb (without x y) 1 ≡ (eqb x 1 && not (eqb y 1))
 less-digit zero zero h l = refl
 less-digit zero (suc zero) h l = refl
 less-digit (suc zero) zero h l = refl
@@ -47,9 +43,9 @@ less-digit zero (suc (suc y)) h l = absurd (omega arith)
 less-digit (suc zero) (suc (suc y)) h l = absurd (omega arith)
 less-digit (suc (suc x)) y h l = absurd (omega arith)
 
-pub test-less : (a b k : ℕ) → testBit (less a b) k ≡ (testBit a k && not (testBit b k))
+pub test-without : (a b k : ℕ) → testBit (without a b) k ≡ (testBit a k && not (testBit b k))
 unfolding testBit
-test-less a b k =
+test-without a b k =
     ap (λ (x : ℕ). eqb x 1) (less-bit a b k)
     ∙ less-digit (bitAt a k) (bitAt b k) (mod-lt (a / 2 ^ k) (lit< tt)) (mod-lt (b / 2 ^ k) (lit< tt))
 
@@ -58,7 +54,7 @@ pub record TwoSteps (n : ℕ) (t : Table) (visited u target : ℕ) (x y : Place)
   pub end : target < n
   pub unvisited : testBit visited target ≡ false
   pub last : Ends n t target y ends
-  pub first : FirstStep x (getD (t .rows) u noRow) (less ends (withBit visited target)) n r
+  pub first : FirstStep x (getD (t .rows) u noRow) (without ends (withBit visited target)) n r
 
 module _ {n : ℕ} {t : Table} {visited u target : ℕ} {x y : Place} {ends r : ℕ} (f : TwoSteps n t visited u target x y ends r) where
   -- a candidate beyond which the last step fails or leads to the target
@@ -84,7 +80,7 @@ module _ {n : ℕ} {t : Table} {visited u target : ℕ} {x y : Place} {ends r : 
       (λ q. rw q (through-target n t visited u target x y (y ∷ []) [] refl (f .end)))
       (λ q. by-test (testBit ends c)
       (λ o. through-not n t visited u target x (y ∷ []) c
-      (f .first .before c h l (test-less ends (withBit visited target) c ∙ rw (o, test-with-other visited target c q ∙ e))))
+      (f .first .before c h l (test-without ends (withBit visited target) c ∙ rw (o, test-with-other visited target c q ∙ e))))
       (λ o. failing c h o)))
 
   pub two-none : n ≤ r → searchFrom n t visited u target (x ∷ y ∷ []) ≡ none
@@ -93,7 +89,7 @@ module _ {n : ℕ} {t : Table} {visited u target : ℕ} {x y : Place} {ends r : 
   pub two-found : r < n → searchFrom n t visited u target (x ∷ y ∷ []) ≡ some (r ∷ target ∷ [])
   two-found l =
       let on : (testBit ends r && not (testBit (withBit visited target) r)) ≡ true =
-      sym (test-less ends (withBit visited target) r) ∙ f .first .on l in
+      sym (test-without ends (withBit visited target) r) ∙ f .first .on l in
       let off : testBit (withBit visited target) r ≡ false = by-test (testBit (withBit visited target) r)
       (λ e. both (and-right (testBit ends r) _ on) (ap not e)) (λ e. e) in
       let d : (r ≡ target → ⊥) = λ q. both (test-with-same visited target) (rw q at off) in

@@ -29,9 +29,10 @@ use Rattle.rebac.specs.promises.Backward.{countBack, depthBack}
 use Rattle.rebac.proofs.BackwardLaws.{depth-most}
 use Rattle.search.specs.promises.PairSearch.{tableGraph}
 use Rattle.search.specs.declared.word.Word.{Word}
-use Rattle.search.proofs.LastLaws.{test-less}
+use Rattle.search.proofs.LastLaws.{test-without}
 use Rattle.word_test.specs.promises.Backward.{symbolsBack, waysFrom, depthFrom, mayStand, BackAs, BackQuery, CandidateQuery, Seconds}
-use Rattle.word_test.specs.promises.Last.{without, someOf, LastTwo, twoWays, twoFar, LastThree}
+use Rattle.search.specs.promises.Last.{without}
+use Rattle.word_test.specs.promises.Last.{someOf, LastTwo, twoWays, twoFar, LastThree}
 use Rattle.word_test.specs.promises.Walk.{Look}
 use Rattle.word_test.specs.declared.back.Back.{Back}
 use Rattle.word_test.proofs.WayLaws.{back-length}
@@ -284,10 +285,10 @@ without-all false false l e h = h
 module _ {n : ℕ} {t : Table} {w : Word} {starts deep : ℕ} {row : Row} (h : Seconds n t w starts deep row) where
   seconds-leaf : (more v : ℕ) → v < n → Leaf n t w starts more v deep (without (maskIn row v) more)
   seconds-leaf more v b = record {
-    starting = λ c. ap (λ (x : Bool). x && testBit starts c) (test-less (maskIn row v) more c)
+    starting = λ c. ap (λ (x : Bool). x && testBit starts c) (test-without (maskIn row v) more c)
         ∙ without-starts (testBit (maskIn row v) c) (testBit more c) (testBit starts c) (ltb c n)
         (testBit (maskAt t c v) (getD (w .symbols) 1 0)) (h .starting v c b);
-    all = λ k c. test-less (maskIn row v) more c
+    all = λ k c. test-without (maskIn row v) more c
         ∙ without-all (testBit (maskIn row v) c) (testBit more c) (ltb c n) (testBit (maskAt t c v) (getD (w .symbols) 1 0))
         (h .all k v c b);
   }

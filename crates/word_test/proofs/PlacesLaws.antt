@@ -18,9 +18,10 @@ use Rattle.rebac.proofs.BackwardLaws.{count-none, depth-most, way-none}
 use Rattle.search.specs.promises.WordValues.{Short}
 use Rattle.search.specs.promises.PairSearch.{tableGraph}
 use Rattle.search.specs.declared.word.Word.{Word}
-use Rattle.search.proofs.LastLaws.{test-less}
+use Rattle.search.proofs.LastLaws.{test-without}
 use Rattle.word_test.specs.promises.Backward.{symbolsBack, waysFrom, depthFrom, mayStand, BackAs, CandidateQuery, Seconds}
-use Rattle.word_test.specs.promises.Last.{without, LastTwo, LastThree}
+use Rattle.search.specs.promises.Last.{without}
+use Rattle.word_test.specs.promises.Last.{LastTwo, LastThree}
 use Rattle.word_test.specs.declared.back.Back.{Back}
 use Rattle.word_test.proofs.StepLaws.{IntoTo}
 use Rattle.word_test.proofs.WayLaws.{back-length}
@@ -59,7 +60,7 @@ pub ends-stand : (n : ℕ) (t : Table) (w : Word) (among visited u at ends : ℕ
 ends-stand n t w among visited u at ends h c =
     h c
     ∙ ap (λ (b : Bool). ltb c n && b)
-    (ap (λ (b : Bool). b && testBit (maskAt t c u) (getD (w .symbols) at 0)) (test-less among visited c)
+    (ap (λ (b : Bool). b && testBit (maskAt t c u) (getD (w .symbols) at 0)) (test-without among visited c)
     ∙ assoc (testBit among c) (not (testBit visited c)) (testBit (maskAt t c u) (getD (w .symbols) at 0)))
   where
     assoc : (a b c : Bool) → ((a && b) && c) ≡ (a && (b && c))

@@ -18,7 +18,8 @@ use Rattle.masks.specs.declared.Row.{Row}
 use Rattle.masks.specs.declared.Table.{Table}
 use Rattle.masks.proofs.BitLaws.{test-with-same, test-with-other, test-or-left, test-or-right}
 use Rattle.masks.proofs.MaskLaws.{Filled, filled-without}
-use Rattle.search.proofs.LastLaws.{less, test-less}
+use Rattle.search.specs.promises.Last.{without}
+use Rattle.search.proofs.LastLaws.{test-without}
 use Rattle.word_test.specs.promises.Steps.{StepsFrom, Joined}
 use Rattle.word_test.specs.promises.Walk.{Onward}
 
@@ -98,5 +99,5 @@ module _ {n : ℕ} {t : Table} {s mask parties k : ℕ} (h : Gathered n t s mask
   }
 
   -- the visited ones taken out
-  pub gathered-onward : (visited : ℕ) → n ≤ k → Onward n t s mask visited n (less parties visited)
-  gathered-onward visited l c v a b m o off = test-less parties visited v ∙ rw (h .all c v (omega arith) b m o, off)
+  pub gathered-onward : (visited : ℕ) → n ≤ k → Onward n t s mask visited n (without parties visited)
+  gathered-onward visited l c v a b m o off = test-without parties visited v ∙ rw (h .all c v (omega arith) b m o, off)

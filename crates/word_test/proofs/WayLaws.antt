@@ -22,7 +22,8 @@ use Rattle.rebac.proofs.BackwardLaws.{count-none, depth-most, depth-way, way-st
 use Rattle.search.specs.promises.Walk.{Within}
 use Rattle.search.specs.promises.PairSearch.{tableGraph}
 use Rattle.search.specs.declared.word.Word.{Word}
-use Rattle.search.proofs.LastLaws.{less, test-less}
+use Rattle.search.specs.promises.Last.{without}
+use Rattle.search.proofs.LastLaws.{test-without}
 use Rattle.search.proofs.WalkLaws.{within-with}
 use Rattle.search.proofs.RoomLaws.{count, count-ones, fewer}
 use Rattle.word_test.specs.promises.Backward.{symbolsBack, wayFrom, waysFrom, depthFrom}
@@ -62,11 +63,11 @@ module _ (n : ℕ) (t : Table) (w : Word) (starts from visited : ℕ) where
   unvisited : (v more : ℕ) → Within visited more → testBit more v ≡ false → testBit visited v ≡ false
   unvisited v more p o = by-test (testBit visited v) (λ e. both (p v e) o) (λ e. e)
 
-  pub covers-start : Covers n t w starts from 0 visited (less starts visited)
+  pub covers-start : Covers n t w starts from 0 visited (without starts visited)
   unfolding wayBack symbolsBack
   covers-start v h e more p o =
       by-test (testBit starts v)
-      (λ q. both (test-less starts visited v ∙ rw (q, unvisited v more p o)) e)
+      (λ q. both (test-without starts visited v ∙ rw (q, unvisited v more p o)) e)
       (λ q. q)
 
   pub covers-step : (k mask parties : ℕ) → Covers n t w starts from k visited mask
@@ -83,15 +84,15 @@ module _ (n : ℕ) (t : Table) (w : Word) (starts from visited : ℕ) where
       (v : ℕ) → v < n → (more : ℕ) → Within visited more → testBit more v ≡ false → count n all more ≤ k
       → wayFrom n t starts (withBit more v) v (symbolsBack w from k) ≡ false
 
-  pub crowded-start : Crowded 0 (less starts visited)
+  pub crowded-start : Crowded 0 (without starts visited)
   unfolding wayBack symbolsBack
   crowded-start v h more p o l =
       by-test (testBit starts v)
       (λ q. absurd (omega (
         arith,
         l,
-        fewer n 0 more (less starts visited) v (λ c z. both z (zero-bit c)) h
-            (test-less starts visited v ∙ rw (q, unvisited v more p o)) o,
+        fewer n 0 more (without starts visited) v (λ c z. both z (zero-bit c)) h
+            (test-without starts visited v ∙ rw (q, unvisited v more p o)) o,
       )))
       (λ q. q)
 

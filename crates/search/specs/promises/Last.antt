@@ -2,6 +2,7 @@
 use Prim.Native.Nat.{ℕ, _+_, _-_, _≤_, _<_}
 use mathlib.Core.Path.{_≡_}
 use mathlib.Core.Bool.{false}
+use lib.Bits.{bitOr, bitXor}
 use lib.ListN.{getD}
 use Rattle.limits.specs.Limits.{mostParties}
 use Rattle.masks.specs.promises.Mask.{testBit}
@@ -13,6 +14,10 @@ use Rattle.search.specs.promises.WordValues.{Short}
 use Rattle.search.specs.promises.Search.{placeOn, placeAt, placesFrom, searchFrom, FoundAs, PartyQuery}
 use Rattle.search.specs.declared.word.Word.{Word}
 use Rattle.search.specs.declared.search.Found.{Found}
+
+-- what the code computes, `(a | b) ^ b`: the places of a that b lacks
+abbrev pub without : ℕ → ℕ → ℕ
+without a b = bitXor (bitOr a b) b
 
 -- the word's last place
 abbrev pub lastPlace : Word → ℕ → Place

@@ -1,4 +1,4 @@
--- The search over the enlarged graph as masks, one for all its uses: the first symbols of a word are fixed, and each later one is a floor.
+-- The search over the enlarged graph as masks, from the first party on: the first symbols of a word are fixed, each later one is a floor.
 use Prim.Native.Nat.{ℕ, zero, suc, _+_, _-_, _/_, _^_, _≤_, _<_}
 use mathlib.Core.Path.{_≡_}
 use mathlib.Core.Bool.{Bool, true, false, not}

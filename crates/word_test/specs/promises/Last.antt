@@ -1,7 +1,7 @@
 -- The last steps of a search back, over masks alone.
 use Prim.Native.Nat.{ℕ, suc, _+_, _-_, _≤_}
 use mathlib.Core.Bool.{not}
-use lib.Bits.{bitAnd, bitOr, bitXor}
+use lib.Bits.{bitAnd}
 use lib.Count.{ones}
 use lib.Dec.{eqb}
 use Rattle.limits.specs.Limits.{mostParties, wordCapacity}
@@ -10,12 +10,9 @@ use Rattle.lists.specs.Order.{onlyIf, sumOf, greatestOf}
 use Rattle.masks.specs.promises.Mask.{testBit, withBit}
 use Rattle.masks.specs.promises.Table.{maskIn}
 use Rattle.masks.specs.declared.Row.{Row}
+use Rattle.search.specs.promises.Last.{without}
 use Rattle.word_test.specs.promises.Backward.{BackAs}
 use Rattle.word_test.specs.declared.back.Back.{Back}
-
--- the parties of the mask that are not passed
-abbrev pub without : ℕ → ℕ → ℕ
-without mask more = bitXor (bitOr mask more) more
 
 -- 1 where the mask has a party
 abbrev pub someOf : ℕ → ℕ

@@ -10,7 +10,8 @@ use Rattle.masks.specs.promises.Table.{maskIn}
 use Rattle.word_test.specs.declared.back.Back.{Back}
 use Rattle.masks.specs.promises.Mask.{testBit}
 use Rattle.masks.proofs.BitLaws.{test-yes, test-off, with-code}
-use Rattle.word_test.specs.promises.Last.{without, LastTwo, twoWays, twoFar}
+use Rattle.search.specs.promises.Last.{without}
+use Rattle.word_test.specs.promises.Last.{LastTwo, twoWays, twoFar}
 use Rattle.word_test.specs.promises.Backward.{BackAs}
 use Rattle.word_test.proofs.CountLaws.{Counted, count-start, count-past, count-fits, count-on, count-full, count-end}
 use Rattle.word_test.proofs.BackLaws.{three-tried}

@@ -20,7 +20,7 @@ use Rattle.rebac.specs.WordTest.{wayLength}
 use Rattle.search.specs.Word.{symbolsIn}
 use Rattle.search.specs.promises.PairSearch.{tableGraph}
 use Rattle.word_test.specs.promises.Backward.{mayStand, Seconds}
-use Rattle.word_test.specs.promises.Last.{without}
+use Rattle.search.specs.promises.Last.{without}
 use Rattle.word_test.specs.declared.back.Back.{Back}
 use Rattle.word_test.proofs.StepLaws.{IntoTo, into-with, into-without}
 use Rattle.word_test.proofs.PlacesLaws.{Wanted, wanted-all, wanted-starts, Places, Searched, ends-stand, places-nowhere, places-two}
