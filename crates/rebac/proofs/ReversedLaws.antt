@@ -201,7 +201,8 @@ module _ {S K : Type 0} (g : Graph S) (seen : ℕ → K → Bool) (mark : ℕ �
       let l : c < g .parties = range-out (g .parties) (x .1) in
       let may : (not (seen c v) && g .edge c b s) ≡ true = and-left (mayPrecede g seen mark v b s c) _ (x .2) in
       let fresh : not (member c past) ≡ true = ap not (sym (m c l)) ∙ and-left (not (seen c v)) _ may in
-      let k = way-reach r (mark c v) (c ∷ past) c l (marks-more g seen mark marks v past c l m) (and-right (mayPrecede g seen mark v b s c) _ (x .2)) in
+      let k = way-reach r (mark c v) (c ∷ past) c l (marks-more g seen mark marks v past c l m)
+      (and-right (mayPrecede g seen mark v b s c) _ (x .2)) in
       (k .0, k .1, any-in _ (range (g .parties)) (x .1) (and-both fresh (and-both (and-right (not (seen c v)) _ may) (k .2))))
 
   reach-way : (r : List S) (v : K) (past : List ℕ) (b a : ℕ) → PartyMarks (g .parties) seen v past
