@@ -56,7 +56,7 @@ module _ (f : List ℕ) (a : check_of f ≡ check.Accepted) where
   copy_recorded : (u v k : ℕ) → legal_kind (labels_of f) k ≡ true
       → recorded (canonical_of written_edition (matter_of f)) u v k ≡ recorded f u v k
   copy_recorded u v k l =
-      canonical_recorded written_edition (matter_of f) (accepted_matter f a) u v k (rw (matter_labels f) l) ∙ matter_says f a u v k l
+      canonical_recorded written_edition (matter_of f) (accepted_matter f a) u v k (rw (matter_labels f) l) ∙ matter_says f u v k l
 
   -- an accepted file's R is the number of its entries
   pub accepted_count : records_of f ≡ count_of (matter_of f)
@@ -103,7 +103,6 @@ module _ (f g : List ℕ) where
     language = s.language j;
     longest = s.longest j;
     edge = λ u v l. s.edges u v l j;
-    unknown = λ u v l. s.unknowns u v l j;
     permit = λ u v. s.permits u v j;
   }
 
@@ -121,7 +120,6 @@ module _ (f g : List ℕ) where
       longest = ap (λ (M : Matter). M.longest) e;
       records = records_follow e;
       edges = λ u v l. ap (λ (M : Matter). M.edge u v l) e;
-      unknowns = λ u v l. ap (λ (M : Matter). M.unknown u v l) e;
       permits = λ u v. ap (λ (M : Matter). M.permit u v) e;
     }
 

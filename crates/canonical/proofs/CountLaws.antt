@@ -4,26 +4,26 @@ use mathlib.Core.Path.{◌≡◌, refl, sym, ap, ◌∙◌}
 use mathlib.Core.Bool.{Bool, true, false}
 use mathlib.Core.List.{List, [], ◌∷◌, ◌++◌, map}
 use mathlib.Core.Logic.{by_cases}
-use Prim.Native.Nat.{ℕ, suc, ◌+◌, ◌*◌, ◌≤◌, ◌<◌}
+use Prim.Native.Nat.{ℕ, suc, ◌+◌, ◌≤◌, ◌<◌}
 use native.Mathlib.Decide.{dec_lt}
 use native.Mathlib.Numerals.{add-one}
 use native.Mathlib.Omega.{arith}
-use lib.Dec.{eqb, ltb}
+use lib.Dec.{eqb}
 use lib.ListN.{length, get_or, take, drop, set, length-append, take-append-drop, get_or-append}
-use lib.Seq.{take_all, get_or_at, get_or-append-add, get_or-set_same, get_or-set_other}
+use lib.Seq.{take_all, get_or_at, get_or-set_same, get_or-set_other}
 use Rattle.lists.specs.Lists.{filter_by, flat_map, up_from, range}
 use Rattle.lists.proofs.Cases.{by_test}
 use Rattle.lists.proofs.Distinct.{get_or_in}
 use Rattle.lists.proofs.ListLaws.{up_length}
 use Rattle.lists.proofs.OrderLaws.{length_map}
 use Rattle.lists.proofs.Pointwise.{filter_append, filter_length, filter_take_in, filter_take_out, filter_same, flat_same}
-use Rattle.lists.proofs.Pieces.{get_or_map, up_at, flat_suc, flat_none, flat_most}
+use Rattle.lists.proofs.Pieces.{up_at, flat_suc, flat_none, flat_most}
 use Rattle.masks.specs.promises.Mask.{test_bit}
 use Rattle.masks.specs.promises.Table.{no_row, mask_in, mask_at}
 use Rattle.masks.specs.declared.Row.{Row}
 use Rattle.masks.specs.declared.Table.{Table}
 use Rattle.rebac.specs.Matter.{Matter}
-use Rattle.house_layout.specs.Layout.{unknown_from, unknown_kind, permit_kind}
+use Rattle.house_layout.specs.Layout.{permit_kind}
 use Rattle.house_layout.specs.Fields.{legal_kind}
 use Rattle.house_layout.specs.promises.Kinds.{bit_of}
 use Rattle.house_layout.specs.declared.header.Header.{Header}
@@ -36,37 +36,17 @@ use Rattle.canonical.proofs.LayoutLaws.{first_step}
 pub kind_label : (labels place : ℕ) → place < labels → get_or (kind_bytes labels) place 0 ≡ place
 unfolding kind_bytes range
 kind_label labels place h =
-    get_or-append (up_from 0 labels) _ 0 place (omega (arith, up_length 0 labels))
+    get_or-append (up_from 0 labels) (permit_kind ∷ []) 0 place (omega (arith, up_length 0 labels))
     ∙ up_at 0 labels place 0 h
     ∙ omega arith
 
--- after them 80 plus each label
-after_labels : (labels place : ℕ)
-    → get_or (kind_bytes labels) (labels + place) 0 ≡ get_or (map unknown_kind (range labels) ++ (permit_kind ∷ [])) place 0
-unfolding kind_bytes range
-after_labels labels place =
-    ap (λ (i : ℕ). get_or (kind_bytes labels) (i + place) 0) (sym (up_length 0 labels))
-    ∙ get_or-append-add (up_from 0 labels) (map unknown_kind (range labels) ++ (permit_kind ∷ [])) place 0
-
-pub kind_unknown : (labels place : ℕ) → place < labels → get_or (kind_bytes labels) (labels + place) 0 ≡ unknown_kind place
-unfolding range
-kind_unknown labels place h =
-    let many : length (map unknown_kind (up_from 0 labels)) ≡ labels = length_map unknown_kind (up_from 0 labels) ∙ up_length 0 labels in
-    after_labels labels place
-    ∙ get_or-append (map unknown_kind (up_from 0 labels)) (permit_kind ∷ []) 0 place (omega arith)
-    ∙ get_or_map unknown_kind (up_from 0 labels) place 0 0 (omega (arith, up_length 0 labels))
-    ∙ ap unknown_kind (up_at 0 labels place 0 h)
-    ∙ omega arith
-
 -- at the last place a permit's kind
-pub kind_permit : (labels : ℕ) → get_or (kind_bytes labels) (labels + labels) 0 ≡ permit_kind
-unfolding range
-kind_permit labels =
-    after_labels labels labels
-    ∙ get_or_at (map unknown_kind (up_from 0 labels)) permit_kind [] 0 labels (length_map unknown_kind (up_from 0 labels) ∙ up_length 0 labels)
+pub kind_permit : (labels : ℕ) → get_or (kind_bytes labels) labels 0 ≡ permit_kind
+unfolding kind_bytes range
+kind_permit labels = get_or_at (up_from 0 labels) permit_kind [] 0 labels (up_length 0 labels)
 
 -- every kind in order is legal
-pub kind_of_place : (labels place : ℕ) → place ≤ 2 * labels → legal_kind labels (get_or (kind_bytes labels) place 0) ≡ true
+pub kind_of_place : (labels place : ℕ) → place ≤ labels → legal_kind labels (get_or (kind_bytes labels) place 0) ≡ true
 kind_of_place labels place h = listed_kind_lem labels _ (get_or_in (kind_bytes labels) place 0 (omega (arith, kinds_number labels)))
 
 -- the kinds of a mask at the places below one
@@ -78,11 +58,11 @@ module _ (labels mask : ℕ) where
   unfolding kinds_to filter_by
   kinds_none = refl
 
-  pub kinds_all : (place : ℕ) → 2 * labels < place → kinds_to labels mask place ≡ kinds_in labels mask
+  pub kinds_all : (place : ℕ) → labels < place → kinds_to labels mask place ≡ kinds_in labels mask
   unfolding kinds_to kinds_in
   kinds_all place h = ap (filter_by (λ k. test_bit mask (bit_of k))) (take_all place (kind_bytes labels) (omega (arith, kinds_number labels)))
 
-  module _ (place : ℕ) (h : place ≤ 2 * labels) where
+  module _ (place : ℕ) (h : place ≤ labels) where
     pub kinds_more : test_bit mask (bit_of (get_or (kind_bytes labels) place 0)) ≡ true
         → kinds_to labels mask (place + 1) ≡ kinds_to labels mask place ++ (get_or (kind_bytes labels) place 0 ∷ [])
     unfolding kinds_to
@@ -94,7 +74,7 @@ module _ (labels mask : ℕ) where
     kinds_same t = filter_take_out (λ k. test_bit mask (bit_of k)) (kind_bytes labels) place 0 (omega (arith, kinds_number labels)) t
 
   -- no more than there are kinds
-  pub kinds_bounded : length (kinds_in labels mask) ≤ 2 * labels + 1
+  pub kinds_bounded : length (kinds_in labels mask) ≤ labels + 1
   unfolding kinds_in
   kinds_bounded = omega (arith, filter_length (λ k. test_bit mask (bit_of k)) (kind_bytes labels), kinds_number labels)
 
@@ -108,7 +88,7 @@ module _ (labels mask : ℕ) where
       omega (arith, ap length e, length-append (filter_by p (take place l)) (filter_by p (drop place l)))
 
   -- where the kind at a place is one, the kinds before it are not all
-  pub kinds_room : (place : ℕ) → place ≤ 2 * labels → test_bit mask (bit_of (get_or (kind_bytes labels) place 0)) ≡ true
+  pub kinds_room : (place : ℕ) → place ≤ labels → test_bit mask (bit_of (get_or (kind_bytes labels) place 0)) ≡ true
       → length (kinds_to labels mask place) < length (kinds_in labels mask)
   kinds_room place h t =
       let kind : ℕ = get_or (kind_bytes labels) place 0 in
@@ -118,8 +98,7 @@ module _ (labels mask : ℕ) where
 module _ (h : Header) (k : Table) (u v : ℕ) where
   pub says_mask : (b : ℕ) → says_kind (matter_in h k) u v b ≡ test_bit (mask_at k u v) (bit_of b)
   unfolding says_kind
-  says_mask b =
-      by_test (eqb b permit_kind) (λ e. rw e) (λ e. by_test (ltb b unknown_from) (λ g. rw (e, g)) (λ g. rw (e, g)))
+  says_mask b = by_test (eqb b permit_kind) (λ e. rw e) (λ e. rw e)
 
   pair_kinds : pair_entries (matter_in h k) u v ≡ map (entry u v) (kinds_in h.labels (mask_at k u v))
   unfolding pair_entries kinds_in

@@ -1,12 +1,12 @@
 // How many records each party has, and so the numbers of the first ones.
-ghost use Rattle.std.specs.Prelude.{◌≡◌, ◌*◌, ◌≤◌, ◌<◌, length, get_or};
+ghost use Rattle.std.specs.Prelude.{◌≡◌, ◌≤◌, ◌<◌, length, get_or};
 ghost use Rattle.limits.specs.Limits.{most_parties, most_labels};
 ghost use Rattle.masks.specs.promises.Mask.{test_bit};
 ghost use Rattle.house_layout.specs.promises.Kinds.{bit_of};
 ghost use Rattle.canonical.specs.Canonical.{kind_bytes, entries_of};
 ghost use Rattle.canonical.specs.promises.Masks.{matter_in, kinds_in, FirstsOf, PartyLimits};
 
-use house_layout::{Header, PERMIT_KIND, UNKNOWN_FROM, bit_of};
+use house_layout::{Header, PERMIT_KIND, bit_of};
 use masks::Table;
 
 // The number of each party's first record, and after the last party's the number past the last record.
@@ -15,23 +15,20 @@ pub struct Firsts {
     pub numbers: [usize; 33],
 }
 
-// The kind byte at a place of the kinds in order: the labels, 80 plus them, then a permit's.
+// The kind byte at a place of the kinds in order: the labels, then a permit's.
 pub fn kind_at(labels: usize, place: usize) -> usize
-    requires { (labels ≤ most_labels) × (place ≤ 2 * labels) }
+    requires { (labels ≤ most_labels) × (place ≤ labels) }
     ensures { (result ≡ get_or (kind_bytes labels) place 0) × (result < 256) }
 {
     if place < labels {
         return place;
-    }
-    if place < 2 * labels {
-        return UNKNOWN_FROM + (place - labels);
     }
     PERMIT_KIND
 }
 
 // Whether a mask has the kind at a place.
 pub fn says_at(labels: usize, mask: u32, place: usize) -> bool
-    requires { (labels ≤ most_labels) × (place ≤ 2 * labels) }
+    requires { (labels ≤ most_labels) × (place ≤ labels) }
     ensures { result ≡ test_bit mask (bit_of (get_or (kind_bytes labels) place 0)) }
 {
     masks::has(mask, bit_of(kind_at(labels, place)))
@@ -42,10 +39,9 @@ fn count_kinds(labels: usize, mask: u32) -> usize
     requires { labels ≤ most_labels }
     ensures { result ≡ length (kinds_in labels mask) }
 {
-    let last = 2 * labels;
     let mut count = 0;
     let mut place = 0;
-    while place <= last {
+    while place <= labels {
         if says_at(labels, mask, place) {
             count += 1;
         }

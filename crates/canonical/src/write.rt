@@ -61,10 +61,9 @@ fn put_pair(
         × (out.new
         ≡ put out.old (base + owned_record * (number - 1)) (pair_bytes end number owner target (kinds_in labels mask))) }
 {
-    let last = 2 * labels;
     let mut next = number;
     let mut place = 0;
-    while place <= last {
+    while place <= labels {
         if says_at(labels, mask, place) {
             let x = Record {
                 target,

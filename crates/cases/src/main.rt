@@ -39,22 +39,17 @@ pub fn show_number(x: usize) {
     decimal(x as u64);
 }
 
-// The labels of one pair under a name, where there are any.
-fn show_labels(name: &[u8], u: usize, v: usize, labels: u8) {
+// The labels of one pair, where there are any.
+fn show_relation(u: usize, v: usize, kinds: u32) {
+    let labels = (kinds % 256) as u8;
     if labels != 0 {
-        text(name);
+        text(b"relation");
         show_number(u);
         show_number(v);
         text(b" ");
         hex_byte(labels);
         line();
     }
-}
-
-// The relations of one pair, then the unknown ones.
-fn show_relation(u: usize, v: usize, kinds: u32) {
-    show_labels(b"relation", u, v, (kinds % 256) as u8);
-    show_labels(b"unknown", u, v, (kinds / 256 % 256) as u8);
 }
 
 fn show_row(u: usize, row: masks::Row) {

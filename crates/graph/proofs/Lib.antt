@@ -1,5 +1,4 @@
 pub mod SymbolLaws
 pub mod LoadLaws
-pub mod UnknownLaws
 pub mod CallLaws
 pub mod LegalLaws

@@ -1,21 +1,21 @@
 -- What an accepted file's decoded form says of its matter: its numbers are in 01's
--- limits, each label's bit is an edge, and each unknown label's an unknown relation. Assumes nothing.
+-- limits, and each label's bit is an edge. Assumes nothing.
 use mathlib.Core.Path.{◌≡◌, sym, ap, ◌∙◌}
 use mathlib.Core.List.{List}
-use Prim.Native.Nat.{ℕ, ◌+◌, ◌≤◌}
+use Prim.Native.Nat.{ℕ, ◌≤◌}
 use native.Mathlib.Omega.{arith}
 use borrow.Author.Tests.{lt-ltb}
 use Rattle.masks.specs.promises.Mask.{test_bit}
 use Rattle.masks.specs.promises.Table.{mask_at}
-use Rattle.house_layout.specs.Layout.{labels_of, unknown_kind}
+use Rattle.house_layout.specs.Layout.{labels_of}
 use Rattle.house_file.specs.Check.{check_of}
-use Rattle.house_file.specs.Meaning.{is_edge, is_unknown}
+use Rattle.house_file.specs.Meaning.{is_edge}
 use Rattle.house_file.specs.promises.Decoded.{Decoded}
-use Rattle.house_layout.specs.promises.Kinds.{unknown_bit, bit_of}
+use Rattle.house_layout.specs.promises.Kinds.{bit_of}
 use Rattle.house_layout.specs.declared.header.Header.{Header}
 use Rattle.house_file.specs.declared.decode.House.{House}
 use Rattle.house_layout.specs.declared.reply.Check.TheVariants.{Accepted}
-use Rattle.house_layout.proofs.KindLaws.{label_legal, unknown_legal, bit_label, bit_unknown}
+use Rattle.house_layout.proofs.RecordLaws.{label_legal, bit_label}
 use Rattle.house_file.proofs.WellFormedLaws.{framing}
 use Rattle.graph.specs.FileMatter.{matter_of, Limits}
 use Rattle.graph.specs.promises.Archive.{Records}
@@ -28,7 +28,7 @@ module _ (f : List ℕ) (e : check_of f ≡ Accepted) where
       record { parties = h.parties; labels = h.labels; language = h.language; longest = h.longest }
 
   pub accepted_records : (h : House) → Decoded f h → Records (matter_of f) h.header h.kinds
-  unfolding matter_of is_edge is_unknown
+  unfolding matter_of is_edge
   accepted_records h d = record {
     limits = accepted_limits;
     parties = ap (λ (x : Header). x.parties) d.header;
@@ -38,10 +38,4 @@ module _ (f : List ℕ) (e : check_of f ≡ Accepted) where
         let small : labels_of f ≤ 8 = (framing f e).fields.labels.1 in
         let b : bit_of l ≡ l = bit_label l (omega arith) in
         ap (test_bit (mask_at h.kinds u v)) (sym b) ∙ d.kinds u v l (label_legal (labels_of f) l k) ∙ rw (lt-ltb l (labels_of f) k);
-    unknowns = λ u v l k.
-        let small : labels_of f ≤ 8 = (framing f e).fields.labels.1 in
-        let b : bit_of (unknown_kind l) ≡ unknown_bit + l = bit_unknown l (omega arith) in
-        ap (test_bit (mask_at h.kinds u v)) (sym b)
-        ∙ d.kinds u v (unknown_kind l) (unknown_legal (labels_of f) l k)
-        ∙ rw (lt-ltb l (labels_of f) k);
   }

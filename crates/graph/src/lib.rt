@@ -7,9 +7,9 @@ ghost use Rattle.masks.specs.promises.Table.{mask_in, mask_at};
 ghost use Rattle.rebac.specs.Matter.{Matter};
 ghost use Rattle.rebac.specs.Symbols.{kinds, holds};
 ghost use Rattle.graph.specs.Legal.{is_pair, legal_symbol};
-ghost use Rattle.graph.specs.promises.Archive.{absent_in, symbol_in, GraphLimits, Records, LoadedAs};
+ghost use Rattle.graph.specs.promises.Archive.{symbol_in, GraphLimits, Records, LoadedAs};
 
-use house_layout::{Check, Header, Refusal, UNKNOWN_BIT};
+use house_layout::{Check, Header, Refusal};
 use masks::{Row, Table};
 
 // What the calls work on: n, L, language, D, the enlarged graph and the permit table.
@@ -70,18 +70,7 @@ pub fn legal_symbol(labels: usize, language: usize, s: u8) -> bool
     false
 }
 
-// Whether a mask of kinds has neither a label nor the unknown label.
-fn absent_in(mask: u32, label: u32) -> bool
-    requires { label < most_labels }
-    ensures { result ≡ absent_in mask label }
-{
-    if masks::has(mask, label) {
-        return false;
-    }
-    !masks::has(mask, UNKNOWN_BIT + label)
-}
-
-// Whether a symbol of the language holds, by the kinds out and back.
+// Whether a symbol of the language holds, by the labels out and back.
 fn symbol_in(language: usize, out: u32, back: u32, s: u32) -> bool
     requires { (language ≤ last_language) × (s < symbol_count) }
     ensures { result ≡ symbol_in language out back s }
@@ -93,17 +82,17 @@ fn symbol_in(language: usize, out: u32, back: u32, s: u32) -> bool
             return masks::has(out, label);
         }
         if kind == 1 {
-            return absent_in(out, label);
+            return !masks::has(out, label);
         }
         if kind == 2 {
             return masks::has(back, label);
         }
-        return absent_in(back, label);
+        return !masks::has(back, label);
     }
     false
 }
 
-// The symbols that hold, by the kinds out and back.
+// The symbols that hold, by the labels out and back.
 fn symbols(labels: usize, language: usize, out: u32, back: u32) -> u32
     requires { (labels ≤ most_labels) × (language ≤ last_language) }
     ensures { (s : ℕ) → test_bit result s ≡ (ltb s (4 * labels) && symbol_in language out back s) }

@@ -8,4 +8,3 @@ pub mod ReachedLaws
 pub mod DecodeLaws
 pub mod FileRefusals
 pub mod OwnerLaws
-pub mod UnknownLaws

@@ -1,7 +1,7 @@
 -- Accepted means well formed: the header's tests one by one, then all chains followed. Assumes nothing.
-use mathlib.Core.Path.{◌≡◌, refl, sym, ap, ◌∙◌}
+use mathlib.Core.Path.{◌≡◌, refl, ap, ◌∙◌}
 use mathlib.Core.Bool.{Bool, true, false, not}
-use mathlib.Core.Logic.{◌↔◌, ⊎_elim}
+use mathlib.Core.Logic.{◌↔◌}
 use mathlib.Core.List.Memᴰ
 use mathlib.Core.List.{List, [], Memᴰ}
 use Prim.Native.Nat.{ℕ, ◌≤◌, ◌<◌}
@@ -10,20 +10,19 @@ use lib.ListN.{length}
 use lib.Dec.{eqb, ltb, leb}
 use borrow.Author.Tests.{eq-eqb, ne_eqb, eqb-true, le-leb, leb-true, lt-ltb, le-ltb, ltb-false, not-false}
 use Rattle.lists.specs.Lists.{all_of, member, up_from}
-use Rattle.lists.proofs.Cases.{by_test, both, and_left, and_right, and_both}
+use Rattle.lists.proofs.Cases.{and_left, and_right, and_both}
 use Rattle.lists.proofs.ListLaws.{all_in, all_of_lem, up_in, up_out, member_in, member_out}
 use Rattle.fields.specs.Numbers.{byte_at}
-use Rattle.house_layout.specs.Layout.{edition_of, parties_of, labels_of, language_of, longest_of, records_of, size_of, record_of, unknown_kind}
+use Rattle.house_layout.specs.Layout.{edition_of, parties_of, labels_of, language_of, longest_of, records_of, size_of, record_of}
 use Rattle.house_layout.specs.Reply.{refuse}
-use Rattle.house_layout.specs.Fields.{within, fields_in_range, opposite}
+use Rattle.house_layout.specs.Fields.{within, fields_in_range}
 use Rattle.house_file.specs.Check.{Followed, stopped, passed, follow_chains, reached_all, chains_check, check_of}
 use Rattle.house_file.specs.Meaning.{chain_of, FieldsRight, WellFormed}
 use Rattle.house_layout.specs.declared.reply.Check.{Check}
 use Rattle.house_layout.specs.declared.reply.Check.TheVariants.{Accepted, Refused}
 use Rattle.house_layout.specs.declared.reply.Refusal.{Refusal}
 use Rattle.house_layout.specs.declared.reply.Refusal.TheVariants.{Length, Field, Unreached}
-use Rattle.house_layout.proofs.KindLaws.{kind_cases, kind_legal, opposite_in, opposite_out}
-use Rattle.house_layout.proofs.RecordLaws.{owner_is_own, not_foreign, target_below, target_other, target_legal}
+use Rattle.house_layout.proofs.RecordLaws.{owner_is_own, not_foreign, target_below, target_other, target_legal, kind_cases, kind_legal}
 use Rattle.house_file.proofs.ChainsLaws.{chains_from, chains_in, chains_out, follows_passed, passed_follows}
 use Rattle.house_file.proofs.LinkedLaws.{records_right}
 
@@ -150,9 +149,6 @@ well_formed f e =
             (target_below _ u _ t, target_other (parties_of f) u _ t);
         kind = λ u r l m. kind_cases (labels_of f) (record_of f r).kind ((h.chain u (omega arith) (omega arith)).kind r m);
         different = λ u r s l. (h.chain u (omega arith) (omega arith)).different r s;
-        consistent = λ u r s k l m n t b p q.
-            both (rw (p, q) (opposite_in (labels_of f) k (unknown_kind k) b refl))
-            ((h.chain u (omega arith) (omega arith)).consistent r s m n t);
       };
     }
 
@@ -171,12 +167,6 @@ accepted f w =
         kind = λ s m. kind_legal (labels_of f) (record_of f s).kind (h.kind v s (omega arith) m);
         once = h.once v (omega arith);
         different = λ s t. h.different v s t (omega arith);
-        consistent = λ s t m n e. by_test (opposite (labels_of f) (record_of f s).kind (record_of f t).kind)
-            (λ q. ⊎_elim
-            (λ o. absurd (h.consistent v s t (record_of f s).kind (omega arith) m n e o.0 refl o.1))
-            (λ o. absurd (h.consistent v t s (record_of f t).kind (omega arith) n m (sym e) o.0 refl o.1))
-            (opposite_out (labels_of f) (record_of f s).kind (record_of f t).kind q))
-            (λ q. q);
       };
       fresh = λ v s a b m n. Memᴰ.not-nil n;
       apart = λ v w s a b d m n. h.apart v w s b (omega arith) m n;

@@ -1,4 +1,3 @@
 pub mod RefusalNumbers
-pub mod KindLaws
 pub mod RecordLaws
 pub mod LayoutLaws

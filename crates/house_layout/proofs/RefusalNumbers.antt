@@ -1,4 +1,4 @@
--- A refusal's number says which it is, and is at most 16: each of the sixteen by computing. So a reply is known by
+-- A refusal's number says which it is, and is at most 15: each of the fifteen by computing. So a reply is known by
 -- its number and values. Assumes nothing.
 use mathlib.Core.Path.{◌≡◌, refl, sym, ap, ◌∙◌}
 use Prim.Native.Nat.{ℕ, ◌≤◌}
@@ -12,7 +12,7 @@ use Rattle.house_layout.specs.declared.reply.Check.TheVariants.{Accepted, Refuse
 use Rattle.house_layout.specs.declared.reply.Refusal.{Refusal}
 use Rattle.house_layout.specs.declared.reply.Refusal.TheVariants.{Length, Field, Link, Again, Unreached, Target, Kind, Repeat}
 use Rattle.house_layout.specs.declared.reply.Refusal.TheVariants.{RuleList, PartyPair, GivenWord, Scratch, Inconvertible}
-use Rattle.house_layout.specs.declared.reply.Refusal.TheVariants.{Output, Owner, Contrary}
+use Rattle.house_layout.specs.declared.reply.Refusal.TheVariants.{Output, Owner}
 
 -- the refusal of a number
 refusal_of : ℕ → Refusal
@@ -30,10 +30,9 @@ refusal_of n =
     (pick (eqb n 11) GivenWord
     (pick (eqb n 12) Scratch
     (pick (eqb n 13) Inconvertible
-    (pick (eqb n 14) Output
-    (pick (eqb n 15) Owner Contrary))))))))))))))
+    (pick (eqb n 14) Output Owner)))))))))))))
 
-refusal_number : (x : Refusal) → (refusal_of (number_of x) ≡ x) × (number_of x ≤ 16)
+refusal_number : (x : Refusal) → (refusal_of (number_of x) ≡ x) × (number_of x ≤ 15)
 unfolding refusal_of
 refusal_number Length = (refl, omega arith)
 refusal_number Field = (refl, omega arith)
@@ -50,12 +49,11 @@ refusal_number Scratch = (refl, omega arith)
 refusal_number Inconvertible = (refl, omega arith)
 refusal_number Output = (refl, omega arith)
 refusal_number Owner = (refl, omega arith)
-refusal_number Contrary = (refl, omega arith)
 
 pub number_apart : (x y : Refusal) → number_of x ≡ number_of y → x ≡ y
 number_apart x y e = sym (refusal_number x).0 ∙ ap refusal_of e ∙ (refusal_number y).0
 
-pub number_small : (x : Refusal) → number_of x ≤ 16
+pub number_small : (x : Refusal) → number_of x ≤ 15
 number_small x = (refusal_number x).1
 
 -- equal numbers and values mean equal replies; for every call's reply, by its cases

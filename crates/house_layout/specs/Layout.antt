@@ -100,13 +100,6 @@ record_of f r = record {
   owner = owner_in (edition_of f) (byte_at f (place_of f r + 4));
 }
 
--- 02, Ticket 5: "A kind byte of 80 plus label (hexadecimal) now says that this relation to the target is unknown"
-abbrev pub unknown_from : ℕ
-unknown_from = 128
-
-abbrev pub unknown_kind : ℕ → ℕ
-unknown_kind label = unknown_from + label
-
--- the kind byte of a permit; every other legal kind is a label, or 80 plus a label
+-- the kind byte of a permit; every other legal kind is a label
 abbrev pub permit_kind : ℕ
 permit_kind = 255

@@ -1,5 +1,5 @@
 // One record: its bytes, and the checks that it is held to.
-ghost use Rattle.std.specs.Prelude.{◌≡◌, true, not, ◌+◌, ◌≤◌, ◌<◌, length, eqb};
+ghost use Rattle.std.specs.Prelude.{◌≡◌, not, ◌+◌, ◌≤◌, ◌<◌, length, eqb};
 ghost use Rattle.limits.specs.Limits.{most_parties, most_labels};
 ghost use Rattle.masks.specs.promises.Mask.{test_bit};
 ghost use Rattle.masks.specs.promises.Table.{mask_in};
@@ -7,18 +7,14 @@ ghost use Rattle.fields.specs.Numbers.{byte_at};
 ghost use Rattle.house_layout.specs.Layout.{record_size, owner_in, record_of};
 ghost use Rattle.house_layout.specs.promises.Places.{RecordThere};
 ghost use Rattle.house_layout.specs.Fields.{foreign, legal_target, legal_kind, judge_record};
-ghost use Rattle.house_layout.specs.promises.Kinds.{bit_of, opposite_kind, contrary_in};
+ghost use Rattle.house_layout.specs.promises.Kinds.{bit_of};
 
 use crate::header::{HEAD_SIZE, HEADER_SIZE, Header, record_size};
 use crate::reply::{Check, Refusal};
 use fields::{u16_at, wide};
 use masks::Row;
 
-// The kind bytes of unknown label 0 and of a permit, and their places in a mask of kinds.
-pub const UNKNOWN_FROM: usize = 128;
-
-pub const UNKNOWN_BIT: u32 = 8;
-
+// The kind byte of a permit, and a permit's place in a mask of kinds.
 pub const PERMIT_KIND: usize = 255;
 
 pub const PERMIT_BIT: u32 = 31;
@@ -76,10 +72,7 @@ pub fn bit_of(kind: usize) -> u32
     if kind == PERMIT_KIND {
         return PERMIT_BIT;
     }
-    if kind < UNKNOWN_FROM {
-        return kind as u32;
-    }
-    UNKNOWN_BIT + (kind - UNKNOWN_FROM) as u32
+    kind as u32
 }
 
 fn foreign_owner(u: usize, owner: OwnerByte) -> bool
@@ -106,43 +99,15 @@ fn legal_kind(labels: usize, kind: usize) -> bool
     if kind < labels {
         return true;
     }
-    if kind < UNKNOWN_FROM {
-        return false;
-    }
-    if kind - UNKNOWN_FROM < labels {
-        return true;
-    }
     kind == PERMIT_KIND
 }
 
-// The kind of the same label that says the other: unknown for known, known for unknown.
-fn opposite_kind(kind: usize) -> usize
-    requires { kind < 256 }
-    ensures { result ≡ opposite_kind kind }
-{
-    if kind < UNKNOWN_FROM {
-        return UNKNOWN_FROM + kind;
-    }
-    kind - UNKNOWN_FROM
-}
-
-// Whether a mask of kinds has that kind.
-fn has_contrary(labels: usize, mask: u32, kind: usize) -> bool
-    requires { (labels ≤ most_labels) × (legal_kind labels kind ≡ true) }
-    ensures { result ≡ contrary_in mask kind }
-{
-    if kind == PERMIT_KIND {
-        return false;
-    }
-    masks::has(mask, bit_of(opposite_kind(kind)))
-}
-
-// The checks 4, 15, 6, 7, 8, 16 of one record of party u's chain: `mark` is not 0 where the record was reached before, and `row` has
+// The checks 4, 15, 6, 7, 8 of one record of party u's chain: `mark` is not 0 where the record was reached before, and `row` has
 // the kinds of the chain's earlier records.
 pub fn check_record(h: Header, u: usize, x: Record, mark: u8, row: Row) -> Check
     requires { (h.parties ≤ most_parties) × (h.labels ≤ most_labels) }
     ensures { result ≡ judge_record h.parties h.labels u x (not (eqb mark 0))
-        (test_bit (mask_in row x.target) (bit_of x.kind)) (contrary_in (mask_in row x.target) x.kind) }
+        (test_bit (mask_in row x.target) (bit_of x.kind)) }
 {
     let owner = x.owner;
     let target = x.target;
@@ -161,12 +126,8 @@ pub fn check_record(h: Header, u: usize, x: Record, mark: u8, row: Row) -> Check
     if !legal_kind(h.labels, kind) {
         return Check::Refused(Refusal::Kind);
     }
-    let seen = row.masks[target];
-    if masks::has(seen, bit_of(kind)) {
+    if masks::has(row.masks[target], bit_of(kind)) {
         return Check::Refused(Refusal::Repeat);
-    }
-    if has_contrary(h.labels, seen, kind) {
-        return Check::Refused(Refusal::Contrary);
     }
     Check::Accepted
 }

@@ -6,12 +6,12 @@ ghost use Rattle.masks.specs.promises.Table.{mask_in, mask_at};
 
 use limits::MOST_PARTIES;
 
-#[derive(Drop)]
+#[derive(Clone, Copy)]
 pub struct Row {
     pub masks: [u32; MOST_PARTIES],
 }
 
-#[derive(Drop)]
+#[derive(Clone, Copy)]
 pub struct Table {
     pub rows: [Row; MOST_PARTIES],
 }

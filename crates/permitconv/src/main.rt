@@ -80,7 +80,7 @@ fn main() {
         return;
     }
     if word::is_word(&asked[..n], b"--version") {
-        print(b"permitconv (Hempmallet) 0.14.0\n");
+        print(b"permitconv (Hempmallet) 0.13.0\n");
         return;
     }
     convert();

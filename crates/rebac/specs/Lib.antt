@@ -4,7 +4,6 @@ pub mod Paths
 pub mod WordTest
 pub mod Symbols
 pub mod TriplePaths
-pub mod Unknown
 pub mod Rules
 pub mod Verdict
 pub mod Mining

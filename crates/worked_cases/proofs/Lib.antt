@@ -2,4 +2,3 @@ pub mod CasesHold
 pub mod FilesHold
 pub mod CopiesHold
 pub mod ComparisonsHold
-pub mod UnknownsHold

@@ -3,4 +3,3 @@ pub mod Cases
 pub mod Files
 pub mod Copies
 pub mod Comparisons
-pub mod Unknowns

@@ -1,5 +1,5 @@
 -- The numbers and masks that stand for a file's matter.
-use Rattle.std.specs.Prelude.{ℕ, zero, suc, ◌+◌, ◌/◌, ◌%◌, ◌≤◌, ◌<◌, ◌≡◌, Bool, not, ◌&&◌, List}
+use Rattle.std.specs.Prelude.{ℕ, zero, suc, ◌/◌, ◌%◌, ◌≤◌, ◌<◌, ◌≡◌, Bool, not, ◌&&◌, List}
 use Rattle.lists.specs.Lists.{member}
 use Rattle.limits.specs.Limits.{most_parties, most_labels, last_language}
 use Rattle.masks.specs.promises.Mask.{test_bit}
@@ -8,7 +8,6 @@ use Rattle.masks.specs.declared.Table.{Table}
 use Rattle.rebac.specs.Matter.{Matter}
 use Rattle.rebac.specs.Symbols.{kinds, holds}
 use Rattle.house_file.specs.Check.{check_of}
-use Rattle.house_layout.specs.promises.Kinds.{unknown_bit}
 use Rattle.house_layout.specs.declared.header.Header.{Header}
 use Rattle.house_layout.specs.declared.reply.Check.TheVariants.{Accepted}
 use Rattle.graph.specs.declared.Archive.{Archive}
@@ -30,16 +29,12 @@ pub record LoadedAs (f : List ℕ) (r : Loading) : Type 0 where
   pub reply : r.reply ≡ check_of f
   pub archive : check_of f ≡ Accepted → Shows (matter_of f) r.archive
 
--- a mask of kinds has neither the label nor the unknown label
-abbrev pub absent_in : ℕ → ℕ → Bool
-absent_in mask l = not (test_bit mask l) && not (test_bit mask (unknown_bit + l))
-
--- a symbol of this kind holds between two parties with the kinds `out` one way and `back` the other
+-- a symbol of this kind holds between two parties with the labels `out` one way and `back` the other
 abbrev pub kind_in : ℕ → ℕ → ℕ → ℕ → Bool
 kind_in out back l zero = test_bit out l
-kind_in out back l (suc zero) = absent_in out l
+kind_in out back l (suc zero) = not (test_bit out l)
 kind_in out back l (suc (suc zero)) = test_bit back l
-kind_in out back l (suc (suc (suc k))) = absent_in back l
+kind_in out back l (suc (suc (suc k))) = not (test_bit back l)
 
 unfoldable pub symbol_in : ℕ → ℕ → ℕ → ℕ → Bool
 symbol_in language out back s = member (s % 4) (kinds language) && kind_in out back (s / 4) (s % 4)
@@ -57,4 +52,3 @@ pub record Records (M : Matter) (h : Header) (k : Table) : Type 0 where
   pub labels : h.labels ≡ M.labels
   pub language : h.language ≡ M.language
   pub edges : (u v l : ℕ) → l < M.labels → test_bit (mask_at k u v) l ≡ M.edge u v l
-  pub unknowns : (u v l : ℕ) → l < M.labels → test_bit (mask_at k u v) (unknown_bit + l) ≡ M.unknown u v l

@@ -13,7 +13,7 @@ use Rattle.canonical.proofs.count.count_party.Tie as tie
 
 record CountedTo (h : Header) (u : ℕ) (row : Row) (count v : ℕ) : Type 0 where
   inside : v ≤ h.parties
-  bounded : count ≤ 17 * v
+  bounded : count ≤ 9 * v
   counted : count ≡ length (row_to h.labels row u v)
 
 abbrev invariant-loop : tie.invariant-loop
@@ -22,8 +22,8 @@ invariant-loop h u row count₀ v₀ count v = CountedTo h u row count v
 abbrev decreases-loop : tie.decreases-loop
 decreases-loop h u row count₀ v₀ count v = h.parties - v
 
--- a mask has at most seventeen kinds
-bounded : (c : tie.After-count-kinds invariant-loop decreases-loop) → c.count-kinds.result ≤ 17
+-- a pair has at most nine kinds
+bounded : (c : tie.After-count-kinds invariant-loop decreases-loop) → c.count-kinds.result ≤ 9
 bounded c =
     let s = c.before.before.before.before.before.before in
     let mask = mask_in (get_or s.args.t2.rows s.args.u no_row) c.before.before.before.before.loop.v in

@@ -27,7 +27,7 @@ abbrev decreases-loop : tie.decreases-loop
 decreases-loop h kinds numbers₀ number₀ u₀ numbers number u = h.parties - u
 
 -- the next party's number is at most that past the last record
-bounded : (c : tie.After-count-party invariant-loop decreases-loop) → c.before.before.before.loop.number + c.count-party.result ≤ 17409
+bounded : (c : tie.After-count-party invariant-loop decreases-loop) → c.before.before.before.loop.number + c.count-party.result ≤ 9217
 bounded c =
     let s = c.before.before.before.before in
     let l = c.before.before.before.loop in

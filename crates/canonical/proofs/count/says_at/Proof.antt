@@ -3,7 +3,7 @@ use mathlib.Core.Path.{◌≡◌, ap, ◌∙◌}
 use lib.ListN.{get_or}
 use Rattle.masks.specs.promises.Mask.{test_bit}
 use Rattle.house_layout.specs.promises.Kinds.{bit_of}
-use Rattle.house_layout.proofs.KindLaws.{bit_small}
+use Rattle.house_layout.proofs.RecordLaws.{bit_small}
 use Rattle.canonical.specs.Canonical.{kind_bytes}
 use Rattle.canonical.proofs.CountLaws.{kind_of_place}
 use borrow.Author.Rules.{rules}

@@ -17,34 +17,29 @@ use borrow.Author.Rules.{rules}
 use Rattle.canonical.proofs.write.put_pair.Statement.{statement}
 use Rattle.canonical.proofs.write.put_pair.Tie as tie
 
-record PairTo (out₀ : List ℕ) (base owner target labels mask number end last : ℕ) (out : List ℕ) (next place : ℕ) : Type 0 where
-  twice : last ≡ 2 * labels
-  inside : place ≤ 2 * labels + 1
+record PairTo (out₀ : List ℕ) (base owner target labels mask number end : ℕ) (out : List ℕ) (next place : ℕ) : Type 0 where
+  inside : place ≤ labels + 1
   size : length out ≡ length out₀
   count : next ≡ number + length (kinds_to labels mask place)
   bytes : out ≡ put out₀ (base + 5 * (number - 1)) (pair_bytes end number owner target (kinds_to labels mask place))
 
 abbrev invariant-loop : tie.invariant-loop
-invariant-loop out₀ base owner target labels mask number end last next₀ place₀ out next place =
-    PairTo out₀ base owner target labels mask number end last out next place
+invariant-loop out₀ base owner target labels mask number end next₀ place₀ out next place =
+    PairTo out₀ base owner target labels mask number end out next place
 
 abbrev decreases-loop : tie.decreases-loop
-decreases-loop out₀ base owner target labels mask number end last next₀ place₀ out next place = 2 * labels + 1 - place
+decreases-loop out₀ base owner target labels mask number end next₀ place₀ out next place = labels + 1 - place
 
 -- the record to write is before the chain's end
 room : (c : tie.Then1 invariant-loop decreases-loop) → c.before.before.before.loop.next + 1 ≤ c.before.before.before.before.before.args.end
 room c =
     let l = c.before.before.before.loop in
     let a = c.before.before.before.before.before.args in
-    let t : l.place ≤ 2 * a.labels = omega (arith, l.invariant.twice, c.before.before.loop-test.true) in
+    let t : l.place ≤ a.labels = omega (arith, c.before.before.loop-test.true) in
     omega (arith, kinds_room a.labels a.mask l.place t (sym c.before.says_at.ensures ∙ c.if1.true))
-
-mul-last : tie.Need-overflow-mul-last invariant-loop decreases-loop
-mul-last c = search rules
 
 loop-holds : tie.Need-loop-init invariant-loop decreases-loop
 loop-holds c = record {
-  twice = refl;
   inside = omega arith;
   size = refl;
   count = rw kinds_none (omega arith);
@@ -93,7 +88,7 @@ loop-again c =
     let l = c.before.before.before.loop in
     let a = c.before.before.before.before.before.args in
     let e = c.before.says_at.ensures in
-    let t : l.place ≤ 2 * a.labels = omega (arith, l.invariant.twice, c.before.before.loop-test.true) in
+    let t : l.place ≤ a.labels = omega (arith, c.before.before.loop-test.true) in
     let i = l.invariant in
     let ks = kinds_to a.labels a.mask l.place in
     let more = kinds_to a.labels a.mask (l.place + 1) in
@@ -109,16 +104,10 @@ loop-again c =
     let o = w.7 ∙ w.4.ensures ∙ p in
     let g = pair_length a.end a.number a.owner a.target more in
     let s = put_kept a.out.now c.if1.out (a.base + 5 * (a.number - 1)) _ o (omega (arith, f, g)) in
-    record { twice = i.twice; inside = omega arith; size = s; count = omega (arith, w.8, n); bytes = o })
+    record { inside = omega arith; size = s; count = omega (arith, w.8, n); bytes = o })
     (λ w.
     let m = kinds_same a.labels a.mask l.place t (sym e ∙ w.0.left) in
-    record {
-      twice = i.twice;
-      inside = omega arith;
-      size = ap length w.1 ∙ i.size;
-      count = rw m (w.2 ∙ i.count);
-      bytes = rw m (w.1 ∙ i.bytes);
-    })
+    record { inside = omega arith; size = ap length w.1 ∙ i.size; count = rw m (w.2 ∙ i.count); bytes = rw m (w.1 ∙ i.bytes) })
     c.if1.branch
 
 same_length : tie.Need-same-length invariant-loop decreases-loop
@@ -128,7 +117,7 @@ returns : tie.Need-returns invariant-loop decreases-loop
 returns c =
     let l = c.before.loop in
     let a = c.before.before.before.args in
-    let e = kinds_all a.labels a.mask l.place (omega (arith, l.invariant.twice, c.loop-test.false)) in
+    let e = kinds_all a.labels a.mask l.place (omega (arith, c.loop-test.false)) in
     (rw e at l.invariant.count, rw e at l.invariant.bytes)
 
 pub put-pair-spec : {M : Type 1} → statement M
@@ -137,7 +126,6 @@ put-pair-spec =
     (tie.spec
     invariant-loop
     decreases-loop
-    mul-last
     loop-holds
     says-at-requires
     kind-at-requires

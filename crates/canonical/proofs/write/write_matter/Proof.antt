@@ -23,7 +23,7 @@ matter c = matter_in c.before.before.args.h c.before.before.args.kinds
 last : (c : tie.After-first-numbers) → numbers_in c.first-numbers.result c.before.before.args.h.parties ≡ suc (count_of (matter c))
 last c = past_last (matter c) c.first-numbers.result c.first-numbers.ensures
 
-bounded : (c : tie.After-first-numbers) → count_of (matter c) ≤ 17408
+bounded : (c : tie.After-first-numbers) → count_of (matter c) ≤ 9216
 bounded c = count_bounded (matter c) (search rules) (search rules)
 
 first-numbers-requires : tie.Need-first-numbers-requires

@@ -7,8 +7,7 @@ use mathlib.Core.Bool.{true}
 use Prim.Native.Nat.{ℕ, suc, ◌-◌, ◌≤◌, ◌<◌}
 use native.Mathlib.Omega.{arith}
 use lib.ListN.{length-set, length, set}
-use Rattle.house_layout.proofs.KindLaws.{kind_small, bit_small}
-use Rattle.house_layout.proofs.RecordLaws.{target_below}
+use Rattle.house_layout.proofs.RecordLaws.{kind_small, bit_small, target_below}
 use Rattle.house_layout.specs.Layout.{header_of, parties_of, labels_of, records_of, record_of}
 use Rattle.house_layout.specs.Fields.{legal_kind}
 use Rattle.house_layout.specs.declared.header.Header.{Header}
@@ -156,7 +155,7 @@ returns-2 c =
       l.invariant.0,
       λ before m.
           let w =
-          here_refused _ _ before _ _ _ (l.invariant.1 before m) b.before.before.loop-test.true (in_file b) (bounded (start b)) _
+          here_refused _ _ before _ _ _ (l.invariant.1 before m) b.before.before.loop-test.true (in_file b) _
           (sym (checked c.before.before.before) ∙ c.before.reply.given.1) in
           record { reply = rw w; kept = λ p e. unlike w e },
     )
@@ -188,8 +187,9 @@ loop-again c =
     let x = c.before.before.before.before.before.before.read-record.ensures in (
       length-set l.marks _ _ ∙ l.inv.0,
       λ before m.
-          rw x (here_next _ _ before _ _ _ (l.inv.1 before m) b.before.before.loop-test.taken (in_file b) (bounded (start b))
-          (accepted c.before.before) (rw l.inv.0 (long b)) c.add.result
+          rw x (here_next _ _ before _ _ _ (l.inv.1 before m) b.before.before.loop-test.taken (in_file b)
+          (accepted c.before.before) (rw l.inv.0 (long b))
+          (bounded (start b)) c.add.result
           (rw x at (rw c.before.bit-of.ensures at c.add.ensures.0)) (rw x at c.add.ensures.1)),
     )
 

@@ -12,7 +12,7 @@ use Rattle.house_layout.specs.declared.header.Header.{Header}
 use Rattle.house_file.specs.Check.{check_of, chains_check}
 use Rattle.house_file.specs.Meaning.{is_permitted}
 use Rattle.house_layout.proofs.LayoutLaws.{size_most}
-use Rattle.house_layout.proofs.KindLaws.{permit_legal}
+use Rattle.house_layout.proofs.RecordLaws.{permit_legal}
 use Rattle.house_file.proofs.DecodeLaws.{refused_not}
 use Rattle.house_file.proofs.WellFormedLaws.{check_short, check_field, check_size, check_chains, fields_right}
 use borrow.Author.Rules.{rules}

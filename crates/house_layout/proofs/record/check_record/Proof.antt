@@ -6,9 +6,8 @@ use Prim.Native.Nat.{◌<◌}
 use native.Mathlib.Omega.{arith}
 use borrow.Author.Tests.{eq-eqb, ne_eqb, not-true, not-false}
 use Rattle.house_layout.specs.Fields.{foreign, legal_target, legal_kind}
-use Rattle.house_layout.proofs.RecordLaws.{judge_again, judge_owner, judge_target, judge_kind, judge_repeat, judge_contrary}
-use Rattle.house_layout.proofs.RecordLaws.{judge_accepts, target_below}
-use Rattle.house_layout.proofs.KindLaws.{kind_small, bit_small}
+use Rattle.house_layout.proofs.RecordLaws.{judge_again, judge_owner, judge_target, judge_kind, judge_repeat, judge_accepts}
+use Rattle.house_layout.proofs.RecordLaws.{target_below, kind_small, bit_small}
 use borrow.Author.Rules.{rules}
 use Rattle.house_layout.proofs.record.check_record.Statement.{statement}
 use Rattle.house_layout.proofs.record.check_record.Tie as tie
@@ -40,9 +39,6 @@ below c = target_below _ _ _ (target c)
 kind : (c : tie.Else4) → let a = (given c.before.before.before.before.before).args in legal_kind a.h.labels a.x.kind ≡ true
 kind c = sym c.before.legal-kind.ensures ∙ not-false c.before.legal-kind.result c.if4.false
 
-abbrev start : tie.Else4 → tie.Start
-start c = c.before.before.before.before.before.before.before
-
 foreign-owner-requires : tie.Need-foreign-owner-requires
 foreign-owner-requires c κs = search rules
 
@@ -50,15 +46,15 @@ legal-target-requires : tie.Need-legal-target-requires
 legal-target-requires c κs = search rules
 
 returns : tie.Need-returns
-returns c = sym (judge_again _ _ _ _ _ _ _ (ap not (ne_eqb _ 0 c.if1.true)))
+returns c = sym (judge_again _ _ _ _ _ _ (ap not (ne_eqb _ 0 c.if1.true)))
 
 returns-2 : tie.Need-returns-2
-returns-2 c = sym (judge_owner _ _ _ _ _ _ _ (fresh c.before) (sym (foreign_said c.before.before) ∙ c.if2.true))
+returns-2 c = sym (judge_owner _ _ _ _ _ _ (fresh c.before) (sym (foreign_said c.before.before) ∙ c.if2.true))
 
 returns-3 : tie.Need-returns-3
 returns-3 c =
     let l = c.before.before.before in
-    sym (judge_target _ _ _ _ _ _ _ (fresh c.before.before) (same_owner c.before)
+    sym (judge_target _ _ _ _ _ _ (fresh c.before.before) (same_owner c.before)
     (sym (legal_said l) ∙ not-true l.legal-target.result c.if3.true))
 
 legal-kind-requires : tie.Need-legal-kind-requires
@@ -67,48 +63,36 @@ legal-kind-requires c κs = search rules
 returns-4 : tie.Need-returns-4
 returns-4 c =
     let t = c.before.before in
-    sym (judge_kind _ _ _ _ _ _ _ (fresh t.before.before) (same_owner t.before) (target t)
+    sym (judge_kind _ _ _ _ _ _ (fresh t.before.before) (same_owner t.before) (target t)
     (sym c.before.legal-kind.ensures ∙ not-true c.before.legal-kind.result c.if4.true))
 
-mul-seen : tie.Need-overflow-mul-seen
-mul-seen c = omega (arith, below c.before.before)
+mul-has : tie.Need-overflow-mul-has
+mul-has c = omega (arith, below c.before.before)
 
-element-copy-out-seen : tie.Need-element-copy-out-seen
-element-copy-out-seen c = omega (arith, below c.before.before)
+element-copy-out-has : tie.Need-element-copy-out-has
+element-copy-out-has c = omega (arith, below c.before.before)
 
 bit-of-requires : tie.Need-bit-of-requires
-bit-of-requires c κs = kind_small _ (start c.before).requires.1 _ (kind c.before)
+bit-of-requires c κs = kind_small _ c.before.before.before.before.before.before.before.before.requires.1 _ (kind c.before)
 
 has-requires : tie.Need-has-requires
-has-requires c κs = rw c.bit-of.ensures (bit_small _ (start c.before.before).requires.1 _ (kind c.before.before))
+has-requires c κs =
+    rw c.bit-of.ensures
+    (bit_small _ c.before.before.before.before.before.before.before.before.before.requires.1 _ (kind c.before.before))
 
 returns-5 : tie.Need-returns-5
 returns-5 c =
     let k = c.before.before.before.before in
     let t = k.before.before in
-    sym (judge_repeat _ _ _ _ _ _ _ (fresh t.before.before) (same_owner t.before) (target t) (kind k)
+    sym (judge_repeat _ _ _ _ _ _ (fresh t.before.before) (same_owner t.before) (target t) (kind k)
     (sym (rw c.before.before.bit-of.ensures at c.before.has.ensures) ∙ c.if5.true))
-
-has-contrary-requires : tie.Need-has-contrary-requires
-has-contrary-requires c κs = let k = c.before.before.before.before in ((start k).requires.1, kind k)
 
 returns-6 : tie.Need-returns-6
 returns-6 c =
-    let b = c.before.before in
-    let k = b.before.before.before.before in
+    let k = c.before.before.before.before in
     let t = k.before.before in
-    sym (judge_contrary _ _ _ _ _ _ _ (fresh t.before.before) (same_owner t.before) (target t) (kind k)
-    (sym (rw b.before.before.bit-of.ensures at b.before.has.ensures) ∙ b.if5.false)
-    (sym c.before.has-contrary.ensures ∙ c.if6.true))
-
-returns-7 : tie.Need-returns-7
-returns-7 c =
-    let b = c.before.before in
-    let k = b.before.before.before.before in
-    let t = k.before.before in
-    sym (judge_accepts _ _ _ _ _ _ _ (fresh t.before.before) (same_owner t.before) (target t) (kind k)
-    (sym (rw b.before.before.bit-of.ensures at b.before.has.ensures) ∙ b.if5.false)
-    (sym c.before.has-contrary.ensures ∙ c.if6.false))
+    sym (judge_accepts _ _ _ _ _ _ (fresh t.before.before) (same_owner t.before) (target t) (kind k)
+    (sym (rw c.before.before.bit-of.ensures at c.before.has.ensures) ∙ c.if5.false))
 
 pub check-record-spec : {M : Type 1} → statement M
 check-record-spec =
@@ -121,11 +105,9 @@ check-record-spec =
     returns-3
     legal-kind-requires
     returns-4
-    mul-seen
-    element-copy-out-seen
+    mul-has
+    element-copy-out-has
     bit-of-requires
     has-requires
     returns-5
-    has-contrary-requires
-    returns-6
-    returns-7)
+    returns-6)
