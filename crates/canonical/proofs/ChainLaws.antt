@@ -37,7 +37,8 @@ module _ (e : ℕ) (M : Matter) (u : ℕ) (h : u < M.parties) where
   number_most : (r : ℕ) → r < first_of M (suc u) → r ≤ records_of (canonical_of e M)
   number_most r b = omega (arith, canonical_records e M, first_most M (suc u) h)
 
-  names_next : (r : ℕ) → first_of M u ≤ r → r < first_of M (suc u) → (record_of (canonical_of e M) r).next ≡ link (first_of M (suc u)) (suc r)
+  names_next : (r : ℕ) → first_of M u ≤ r → r < first_of M (suc u)
+      → (record_of (canonical_of e M) r).next ≡ link (first_of M (suc u)) (suc r)
   names_next r a b = ap (λ (x : Record). x.next) (chain_record r a b)
 
   chain_from_lem : (k r : ℕ) → first_of M u ≤ r → r ≤ first_of M (suc u) → first_of M (suc u) ≤ r + k

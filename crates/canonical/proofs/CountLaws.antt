@@ -60,7 +60,8 @@ module _ (labels mask : ℕ) where
 
   pub kinds_all : (place : ℕ) → labels < place → kinds_to labels mask place ≡ kinds_in labels mask
   unfolding kinds_to kinds_in
-  kinds_all place h = ap (filter_by (λ k. test_bit mask (bit_of k))) (take_all place (kind_bytes labels) (omega (arith, kinds_number labels)))
+  kinds_all place h =
+      ap (filter_by (λ k. test_bit mask (bit_of k))) (take_all place (kind_bytes labels) (omega (arith, kinds_number labels)))
 
   module _ (place : ℕ) (h : place ≤ labels) where
     pub kinds_more : test_bit mask (bit_of (get_or (kind_bytes labels) place 0)) ≡ true

@@ -81,7 +81,8 @@ module _ (f : List ℕ) where
 
     numbers_length : length (flat_map (chain_of f) (range (parties_of f))) ≡ records_of f
     numbers_length =
-        distinct_equal (flat_map (chain_of f) (range (parties_of f))) (up_from 1 (records_of f)) numbers_distinct (up_distinct 1 (records_of f))
+        distinct_equal (flat_map (chain_of f) (range (parties_of f))) (up_from 1 (records_of f)) numbers_distinct
+        (up_distinct 1 (records_of f))
         (λ r m.
         let o = flat_out (chain_of f) (range (parties_of f)) m in
         let b = linked_inside f (head_of f o.0) (chain_of f o.0) (w.linked o.0 (range_out (parties_of f) o.1)) r o.2 in

@@ -136,7 +136,8 @@ module _ (f : List ℕ) (a : check_of f ≡ Accepted) (s : InShape f) where
       ∙ ap (λ (e : ℕ). link e (first_of M u)) (sym (first_step M u))
       ∙ sym (canonical_head edition M u (rw parties_of_lem h))
 
-  same_entry : (u i : ℕ) → u < parties_of f → i < length (entries_of M u) → entry_in f u (first_of M u + i) ≡ get_or (entries_of M u) i no_entry
+  same_entry : (u i : ℕ) → u < parties_of f → i < length (entries_of M u)
+      → entry_in f u (first_of M u + i) ≡ get_or (entries_of M u) i no_entry
   same_entry u i h g =
       let n : ℕ = length (entries_of M u) in
       ap (entry_in f u) (sym (up_at (first_of M u) n i 0 g))
@@ -158,7 +159,8 @@ module _ (f : List ℕ) (a : check_of f ≡ Accepted) (s : InShape f) where
       let n : (record_of f (first_of M u + i)).next ≡ link (first_of M (suc u)) (suc (first_of M u + i)) =
       next_named f (length (entries_of M u)) (first_of M u) (head_of f u) i g (chain_linked u h)
       ∙ ap (λ (e : ℕ). link e (suc (first_of M u + i))) (sym (first_step M u)) in
-      let z : record_of f (first_of M u + i) ≡ record_for edition (first_of M (suc u)) (first_of M u + i) (get_or (entries_of M u) i no_entry) =
+      let z : record_of f (first_of M u + i) ≡ record_for edition (first_of M (suc u)) (first_of M u + i)
+      (get_or (entries_of M u) i no_entry) =
       λ j. record { target = t j; kind = k j; next = n j; owner = o j } in
       z ∙ sym (party_record edition M u i (rw parties_of_lem h) g)
 

@@ -96,7 +96,8 @@ module _ (end : ℕ) where
   pub chain_length : (r : ℕ) (es : List Entry) → length (chain_bytes end r es) ≡ 5 * length es
   unfolding chain_bytes record_size
   chain_length r es =
-      pieces_length record_bytes (record_size written_edition) (chain_records written_edition end r es) (linked_sized written_edition end r es)
+      pieces_length record_bytes (record_size written_edition) (chain_records written_edition end r es)
+      (linked_sized written_edition end r es)
       ∙ ap (λ (k : ℕ). 5 * k) (linked_length written_edition end r es)
 
   -- one pair's records

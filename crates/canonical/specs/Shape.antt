@@ -27,7 +27,8 @@ entry_in f u r = entry u (record_of f r).target (record_of f r).kind
 -- "records numbered along the chains, party 0 first, each chain by target and then by kind byte"
 pub record InShape (f : List ℕ) : Type 0 where
   -- a chain's numbers are consecutive and begin after those of the lower parties' chains
-  pub numbered : (u : ℕ) → u < parties_of f → chain_of f u ≡ up_from (suc (length (flat_map (chain_of f) (range u)))) (length (chain_of f u))
+  pub numbered : (u : ℕ) → u < parties_of f
+      → chain_of f u ≡ up_from (suc (length (flat_map (chain_of f) (range u)))) (length (chain_of f u))
   pub ascending : (u : ℕ) → u < parties_of f → Ascending entry_before (map (entry_in f u) (chain_of f u))
 
 -- "equal header fields, relations and permits"; the "comparison leaves the edition byte out" (02, Ticket 2)

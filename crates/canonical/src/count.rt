@@ -10,7 +10,7 @@ use house_layout::{Header, PERMIT_KIND, bit_of};
 use masks::Table;
 
 // The number of each party's first record, and after the last party's the number past the last record.
-#[derive(Drop)]
+#[derive(Clone, Copy)]
 pub struct Firsts {
     pub numbers: [usize; 33],
 }

@@ -1,4 +1,6 @@
 // A matter written as a house file in one canonical order.
+#![tactic(auto)]
+
 mod call;
 mod count;
 mod reply;

@@ -2,7 +2,7 @@
 use house_layout::Refusal;
 
 // Refused, or the length of the file written. `said_file` gives 01's number and values of each; equal ones mean equal replies (`file_said`).
-#[derive(Drop)]
+#[derive(Clone, Copy)]
 pub enum FileReply {
     Refused(Refusal),
     Wrote(usize),

@@ -3,10 +3,12 @@ ghost use Rattle.std.specs.Prelude.{◌+◌, ◌≤◌, length};
 
 use crate::frame::{Frame, wide};
 use crate::print::{decimal, hex_bytes, line, text};
-use crate::{fill, listed, refused, tested, written};
+use crate::{LARGE, fill, listed, refused, tested, written};
 use limits::WORD_CAPACITY;
 use paths::WordReply;
 use search::Word;
+use std::io;
+use std::io::{Read, Write};
 
 // Whether a call has more than a file: a word, with an output or without, an output, or a rule list.
 pub fn has_more(call: u8) -> bool {
@@ -33,72 +35,93 @@ pub fn word_of(given: &[u8; 32]) -> Word {
     }
 }
 
-fn show_reply(r: WordReply) {
+fn show_reply<W: Write>(r: WordReply, out: &mut W) -> io::Result<()> {
     match r {
-        WordReply::Refused(e) => refused(e),
-        WordReply::Nothing => {
-            text(b" none\n");
-        }
+        WordReply::Refused(e) => refused(e, out),
+        WordReply::Nothing => text(out, b" none\n"),
         WordReply::Wrote(k) => {
-            text(b" ");
-            decimal(k as u64);
-            line();
+            text(out, b" ")?;
+            decimal(out, k as u64)?;
+            line(out)
         }
     }
 }
 
-pub fn show_output(out: &[u8]) {
-    text(b"output ");
-    hex_bytes(out);
-    line();
+pub fn show_output<W: Write>(shown: &[u8], out: &mut W) -> io::Result<()> {
+    text(out, b"output ")?;
+    hex_bytes(out, shown)?;
+    line(out)
 }
 
 // Lends the middle of a space of 16 + n + 16 bytes and shows all of it.
-fn answer(f: Frame, file: &[u8], w: Word, space: &mut [u8], end: usize)
+fn answer<W: Write>(
+    f: Frame,
+    file: &[u8],
+    w: Word,
+    space: &mut [u8],
+    end: usize,
+    out: &mut W,
+) -> io::Result<()>
     requires { (16 ≤ end) × (end ≤ length space.old) }
 {
     let first = f.first as usize;
     let second = f.second as usize;
     if f.call == b'p' {
-        text(b"path");
-        show_reply(paths::path_call(file, first, second, w, &mut space[16..end]));
+        text(out, b"path")?;
+        show_reply(
+            paths::path_call(file, first, second, w, &mut space[16..end]),
+            out,
+        )
     } else {
-        text(b"next-word");
-        show_reply(paths::next_call(file, first, second, w, &mut space[16..end]));
+        text(out, b"next-word")?;
+        show_reply(
+            paths::next_call(file, first, second, w, &mut space[16..end]),
+            out,
+        )
     }
 }
 
 // Reads what else a frame has and runs its call; false where the script is too short.
-pub fn run(f: Frame, file: &[u8]) -> bool {
+pub fn run<R: Read, W: Write>(
+    f: Frame,
+    file: &[u8],
+    input: &mut R,
+    out: &mut W,
+) -> io::Result<bool> {
     if f.call == b'p' || f.call == b'n' {
-        return run_word(f, file);
+        return run_word(f, file, input, out);
     }
     if f.call == b't' {
-        return tested::run_test(f, file);
+        return tested::run_test(f, file, input, out);
     }
     if f.call == b'w' {
-        return written::run_write(f, file);
+        return written::run_write(f, file, input, out);
     }
-    let mut list = io::large_buffer();
-    listed::run_list(f, file, &mut list)
+    let mut list = [0u8; LARGE];
+    listed::run_list(f, file, &mut list, input, out)
 }
 
 // Path and next-word.
-fn run_word(f: Frame, file: &[u8]) -> bool {
+fn run_word<R: Read, W: Write>(
+    f: Frame,
+    file: &[u8],
+    input: &mut R,
+    out: &mut W,
+) -> io::Result<bool> {
     let mut given = [0u8; 32];
-    if !fill(&mut given, 32) {
-        return false;
+    if !fill(&mut given, 32, input)? {
+        return Ok(false);
     }
     let w = word_of(&given);
     let mut space = [0u8; 256];
     let n = f.output;
     if 200 < n {
-        return false;
+        return Ok(false);
     }
-    if !fill(&mut space, n + 32) {
-        return false;
+    if !fill(&mut space, n + 32, input)? {
+        return Ok(false);
     }
-    answer(f, file, w, &mut space, n + 16);
-    show_output(&space[..n + 32]);
-    true
+    answer(f, file, w, &mut space, n + 16, out)?;
+    show_output(&space[..n + 32], out)?;
+    Ok(true)
 }

@@ -1,9 +1,10 @@
 // A frame's first 24 bytes.
 ghost use Rattle.std.specs.Prelude.{◌+◌, ◌<◌};
 
-use libc::STDIN_FILENO;
+use std::io;
+use std::io::Read;
 
-#[derive(Drop)]
+#[derive(Clone, Copy)]
 pub struct Frame {
     pub whole: bool,
     pub call: u8,
@@ -32,10 +33,10 @@ fn u32_at(head: &[u8; 24], at: usize) -> usize
 }
 
 // The next frame's numbers; not whole at the script's end.
-pub fn read() -> Frame {
+pub fn read<R: Read>(input: &mut R) -> io::Result<Frame> {
     let mut head = [0u8; 24];
-    let got = io::read_full(STDIN_FILENO, &mut head);
-    Frame {
+    let got = reading::read_full(input, &mut head)?;
+    Ok(Frame {
         whole: got == 24,
         call: head[0],
         first: head[1],
@@ -44,5 +45,5 @@ pub fn read() -> Frame {
         given: u32_at(&head, 8),
         output: u32_at(&head, 12),
         scratch: u32_at(&head, 16),
-    }
+    })
 }

@@ -1,18 +1,22 @@
-// Text on standard output.
-ghost use Rattle.std.specs.Prelude.{◌<◌};
+// Text on the output.
+ghost use Rattle.std.specs.Prelude.{◌<◌, OnOk};
+ghost use Rattle.std.specs.Io.KnownBytes.{Appends};
 
-use libc::STDOUT_FILENO;
+use std::io;
+use std::io::Write;
 
-pub fn text(s: &[u8]) {
-    io::write_all(STDOUT_FILENO, s);
+pub fn text<W: Write>(out: &mut W, s: &[u8]) -> io::Result<()>
+    ensures { OnOk result (Appends (W.contents out.old) (W.contents out.new) s.now) }
+{
+    out.write_all(s)
 }
 
-pub fn line() {
-    text(b"\n");
+pub fn line<W: Write>(out: &mut W) -> io::Result<()> {
+    text(out, b"\n")
 }
 
-pub fn decimal(x: u64) {
-    io::print_decimal(STDOUT_FILENO, x);
+pub fn decimal<W: Write>(out: &mut W, x: u64) -> io::Result<()> {
+    write!(out, "{x}")
 }
 
 fn digit(x: u8) -> u8
@@ -25,24 +29,25 @@ fn digit(x: u8) -> u8
 }
 
 // Two upper-case hexadecimal digits.
-pub fn hex_byte(x: u8) {
+pub fn hex_byte<W: Write>(out: &mut W, x: u8) -> io::Result<()> {
     let d = [digit(x / 16), digit(x % 16)];
-    text(&d);
+    text(out, &d)
 }
 
 // Eight of them.
-pub fn hex_mask(x: u32) {
-    hex_byte((x / 16777216) as u8);
-    hex_byte((x / 65536 % 256) as u8);
-    hex_byte((x / 256 % 256) as u8);
-    hex_byte((x % 256) as u8);
+pub fn hex_mask<W: Write>(out: &mut W, x: u32) -> io::Result<()> {
+    hex_byte(out, (x / 16777216) as u8)?;
+    hex_byte(out, (x / 65536 % 256) as u8)?;
+    hex_byte(out, (x / 256 % 256) as u8)?;
+    hex_byte(out, (x % 256) as u8)
 }
 
 // Each byte of a slice as two of them.
-pub fn hex_bytes(s: &[u8]) {
+pub fn hex_bytes<W: Write>(out: &mut W, s: &[u8]) -> io::Result<()> {
     let mut i = 0;
     while i < s.len() {
-        hex_byte(s[i]);
+        hex_byte(out, s[i])?;
         i += 1;
     }
+    Ok(())
 }

@@ -4,39 +4,46 @@ ghost use Rattle.std.specs.Prelude.{◌≤◌, length};
 use crate::calls::show_output;
 use crate::frame::Frame;
 use crate::print::{decimal, line, text};
-use crate::{fill, refused};
+use crate::{LARGE, fill, refused};
 use canonical::FileReply;
+use std::io;
+use std::io::{Read, Write};
 
-fn show_written(r: FileReply) {
+fn show_written<W: Write>(r: FileReply, out: &mut W) -> io::Result<()> {
     match r {
-        FileReply::Refused(e) => refused(e),
+        FileReply::Refused(e) => refused(e, out),
         FileReply::Wrote(k) => {
-            text(b" ");
-            decimal(k as u64);
-            line();
+            text(out, b" ")?;
+            decimal(out, k as u64)?;
+            line(out)
         }
     }
 }
 
 // Lends the middle of the space.
-fn write(file: &[u8], space: &mut [u8], end: usize)
+fn write<W: Write>(file: &[u8], space: &mut [u8], end: usize, out: &mut W) -> io::Result<()>
     requires { (16 ≤ end) × (end ≤ length space.old) }
 {
-    text(b"write");
-    show_written(canonical::write_call(file, &mut space[16..end]));
+    text(out, b"write")?;
+    show_written(canonical::write_call(file, &mut space[16..end]), out)
 }
 
 // Reads the output of a frame with its guards, runs the call and shows all of it; false where the script is too short.
-pub fn run_write(f: Frame, file: &[u8]) -> bool {
-    let mut space = io::large_buffer();
+pub fn run_write<R: Read, W: Write>(
+    f: Frame,
+    file: &[u8],
+    input: &mut R,
+    out: &mut W,
+) -> io::Result<bool> {
+    let mut space = [0u8; LARGE];
     let n = f.output;
     if 60000 < n {
-        return false;
+        return Ok(false);
     }
-    if !fill(&mut space, n + 32) {
-        return false;
+    if !fill(&mut space, n + 32, input)? {
+        return Ok(false);
     }
-    write(file, &mut space, n + 16);
-    show_output(&space[..n + 32]);
-    true
+    write(file, &mut space, n + 16, out)?;
+    show_output(&space[..n + 32], out)?;
+    Ok(true)
 }

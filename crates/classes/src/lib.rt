@@ -1,5 +1,7 @@
 // The first telling word over a graph in letters, by prefixes: a prefix is passed over where no classes after it tell.
 // Where letters are too many, whole lengths are passed over alike.
+#![tactic(auto)]
+
 mod by_words;
 mod lengths;
 mod seek;

@@ -20,7 +20,7 @@ use rules::meets_list;
 
 // The same pairs; or the first pair that only the file's table permits, or only the list.
 // `said_compare` gives the number and values of each reply; equal ones mean equal replies (`compare_said`).
-#[derive(Drop)]
+#[derive(Clone, Copy)]
 pub enum CompareReply {
     Refused(Refusal),
     Same,

@@ -1,4 +1,6 @@
 // A rule list made elsewhere, held against a file's permit table.
+#![tactic(auto)]
+
 mod call;
 
 pub use call::{CompareReply, compare_call};

@@ -1,4 +1,6 @@
 // The verdict and mining calls.
+#![tactic(auto)]
+
 mod mine;
 mod table;
 mod verdict;

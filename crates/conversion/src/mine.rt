@@ -15,7 +15,7 @@ use masks::Row;
 
 // Refused, or the length of the list written. `said_mining` gives 01's number and values of each;
 // equal ones mean equal replies (`mining_said`).
-#[derive(Drop)]
+#[derive(Clone, Copy)]
 pub enum MiningReply {
     Refused(Refusal),
     Wrote(usize),

@@ -13,7 +13,7 @@ use mining::{Outcome, Pair};
 
 // Convertible with the list's length in bytes; or not, for the pair has no word or has the rival.
 // `said_verdict` gives 01's number and values of each; equal ones mean equal replies (`verdict_said`).
-#[derive(Drop)]
+#[derive(Clone, Copy)]
 pub enum VerdictReply {
     Refused(Refusal),
     Convertible(usize),
@@ -22,7 +22,7 @@ pub enum VerdictReply {
 }
 
 // The verdict, and the pairs that the list permits.
-#[derive(Drop)]
+#[derive(Clone, Copy)]
 pub struct Judged {
     pub reply: VerdictReply,
     pub marks: Row,

@@ -29,7 +29,8 @@ decimal_small n h = rw (lt-ltb n 10 h)
 pub decimal_more : (n : ℕ) → 10 ≤ n → decimal_text n ≡ decimal_text (n / 10) ++ ((48 + n % 10) ∷ [])
 unfolding decimal_text digits_in
 decimal_more n h =
-    let same : digits_in n (n / 10) ≡ digits_in (suc (n / 10)) (n / 10) = digits_same n (suc (n / 10)) (n / 10) (omega arith) (omega arith) in
+    let same : digits_in n (n / 10) ≡ digits_in (suc (n / 10)) (n / 10) =
+    digits_same n (suc (n / 10)) (n / 10) (omega arith) (omega arith) in
     rw (le-ltb n 10 h) (ap (λ (l : List ℕ). l ++ ((48 + n % 10) ∷ [])) same)
 
 pub decimal_room : (n : ℕ) → 10 ≤ n → length (decimal_text n) ≡ length (decimal_text (n / 10)) + 1

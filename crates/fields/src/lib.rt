@@ -1,4 +1,6 @@
 // Numbers and bytes at a place of a slice: two-byte fields, pieces written one after another, decimal text.
+#![tactic(auto)]
+
 mod decimal;
 mod read;
 mod write;

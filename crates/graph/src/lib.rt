@@ -1,4 +1,6 @@
 // The enlarged graph of a house file: for each two different parties the set of symbols that hold, as a mask.
+#![tactic(auto)]
+
 ghost use Rattle.std.specs.Prelude.{◌≡◌, ◌&&◌, ℕ, ◌*◌, ◌≤◌, ◌<◌, ltb};
 ghost use Rattle.lists.specs.Lists.{member};
 ghost use Rattle.limits.specs.Limits.{most_labels, last_language, symbol_count};
@@ -13,7 +15,7 @@ use house_layout::{Check, Header, Refusal};
 use masks::{Row, Table};
 
 // What the calls work on: n, L, language, D, the enlarged graph and the permit table.
-#[derive(Drop)]
+#[derive(Clone, Copy)]
 pub struct Archive {
     pub parties: usize,
     pub labels: usize,
@@ -24,7 +26,7 @@ pub struct Archive {
 }
 
 // The check's reply; the archive means something where it is Accepted.
-#[derive(Drop)]
+#[derive(Clone, Copy)]
 pub struct Loading {
     pub reply: Check,
     pub archive: Archive,

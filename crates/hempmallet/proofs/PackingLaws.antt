@@ -14,7 +14,7 @@ use Rattle.rebac.specs.Existence.{problem_of, verdict_of}
 use Rattle.house_file.specs.Check.{check_of}
 use Rattle.house_layout.specs.Reply.{number_of}
 use Rattle.house_layout.specs.declared.reply.Refusal.{Refusal}
-use Rattle.house_layout.specs.declared.reply.Check.TheVariants.{Accepted, Refused}
+use Rattle.house_layout.specs.declared.reply.Check.TheVariants.{Accepted}
 use Rattle.graph.specs.FileMatter.{matter_of}
 use Rattle.graph.proofs.LoadLaws.{accepted_limits}
 use Rattle.rules.specs.declared.call.PermitReply.{PermitReply}

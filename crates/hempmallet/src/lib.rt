@@ -1,4 +1,6 @@
 // The calls as the console's host makes them, through numbers and byte slices.
+#![tactic(auto)]
+
 pub mod exports;
 mod pack;
 

@@ -10,7 +10,7 @@ use house_layout::{
 use limits::MOST_RECORDS;
 use masks::Row;
 
-#[derive(Drop)]
+#[derive(Clone, Copy)]
 pub struct Chain {
     pub reply: Check,
     pub row: Row,
@@ -19,8 +19,8 @@ pub struct Chain {
 // Party u's chain; `marks` has a place for each record, not 0 where it was reached.
 pub fn read_chain(file: &[u8], h: Header, u: usize, marks: &mut [u8; MOST_RECORDS]) -> Chain
     requires { ChainThere file.now h u marks.old }
-    ensures marks_len { length marks.new ≡ most_records }
-    ensures by_index { (before : List ℕ) → RecordMarks marks.old before
+    ensures places { length marks.new ≡ most_records }
+    ensures read { (before : List ℕ) → RecordMarks marks.old before
         → ChainRead file.now u before result marks.new }
 {
     let mut row = masks::empty_row();

@@ -17,7 +17,7 @@ use limits::{MASK_PLACES, MOST_PARTIES, MOST_RECORDS};
 use masks::{Row, Table};
 
 // What an accepted file says: `kinds` has for each pair the kinds recorded, `permits` for each first party the permitted second ones.
-#[derive(Drop)]
+#[derive(Clone, Copy)]
 pub struct House {
     pub header: Header,
     pub kinds: Table,
@@ -25,13 +25,13 @@ pub struct House {
 }
 
 // The check's reply; `house` means something where the reply is Accepted.
-#[derive(Drop)]
+#[derive(Clone, Copy)]
 pub struct Reading {
     pub reply: Check,
     pub house: House,
 }
 
-#[derive(Drop)]
+#[derive(Clone, Copy)]
 pub struct Chains {
     pub reply: Check,
     pub kinds: Table,

@@ -1,4 +1,6 @@
 // The house file: its chains followed, check and decode.
+#![tactic(auto)]
+
 mod chain;
 mod decode;
 

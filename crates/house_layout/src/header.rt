@@ -23,7 +23,7 @@ pub const LONGEST_FILE: usize = HEADER_SIZE
     + HEAD_SIZE * MOST_PARTIES
     + OWNED_RECORD * MOST_RECORDS;
 
-#[derive(Drop)]
+#[derive(Clone, Copy)]
 pub struct Header {
     pub edition: usize,
     pub parties: usize,

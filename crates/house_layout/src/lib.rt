@@ -1,4 +1,6 @@
 // A house file's parts: its header, one record, and what a check answers. Only this crate and house_file read file bytes.
+#![tactic(auto)]
+
 mod header;
 mod record;
 mod reply;

@@ -20,13 +20,13 @@ pub const PERMIT_KIND: usize = 255;
 pub const PERMIT_BIT: u32 = 31;
 
 // The owner that a record says; a record of edition 1 has no byte for it.
-#[derive(Drop)]
+#[derive(Clone, Copy)]
 pub enum OwnerByte {
     Missing,
     Party(usize),
 }
 
-#[derive(Drop)]
+#[derive(Clone, Copy)]
 pub struct Record {
     pub target: usize,
     pub kind: usize,

@@ -3,7 +3,7 @@ ghost use Rattle.std.specs.Prelude.{◌≡◌};
 ghost use Rattle.house_layout.specs.Reply.{number_of};
 
 // The refusals of 01 and 02; `number_of` gives the number of each. 1 to 8 and 15 are caused by whoever wrote the file.
-#[derive(Drop)]
+#[derive(Clone, Copy)]
 pub enum Refusal {
     Length,
     Field,
@@ -23,7 +23,7 @@ pub enum Refusal {
 }
 
 // `said_check` gives 01's number and values of each; equal ones mean equal replies (`check_said`).
-#[derive(Drop)]
+#[derive(Clone, Copy)]
 pub enum Check {
     Accepted,
     Refused(Refusal),

@@ -137,7 +137,8 @@ module _ (g t : Graph ℕ) (symbols : List ℕ) (base end : ℕ) (k : Lettered g
     pub telling_in_symbols : (n : ℕ) → first_telling g p q al n ≡ map (in_symbols symbols) (first_telling t p q (range base) n)
     unfolding first_telling
     telling_in_symbols n =
-        first_read lex_less lex_less (in_symbols symbols) (tells g p q) (tells t p q) (words_of_length al n) (words_of_length (range base) n)
+        first_read lex_less lex_less (in_symbols symbols) (tells g p q) (tells t p q) (words_of_length al n)
+        (words_of_length (range base) n)
         lex_irreflexive lex_transitive (length_ascending al up n) (length_ascending (range base) (range_ascending base) n)
         (λ v m e.
         let o = length_out (range base) n m in

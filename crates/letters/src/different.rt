@@ -8,7 +8,7 @@ use limits::{MOST_PARTIES, PAIR_NUMBERS};
 use masks::Table;
 
 // The classes found so far; `few` where there was room for each.
-#[derive(Drop)]
+#[derive(Clone, Copy)]
 pub struct Classes {
     pub few: bool,
     pub count: usize,

@@ -9,7 +9,7 @@ use limits::{MASK_PLACES, MOST_PARTIES, PAIR_NUMBERS};
 use masks::Table;
 
 // The symbols found so far, ascending; past the count nothing is meant.
-#[derive(Drop)]
+#[derive(Clone, Copy)]
 pub struct Least {
     pub count: usize,
     pub symbols: [u8; MOST_LETTERS],

@@ -1,4 +1,6 @@
 // Letters: one for the least of symbols that hold for the same pairs, and one for each of a graph's different masks.
+#![tactic(auto)]
+
 mod different;
 mod follow;
 mod least;

@@ -11,7 +11,7 @@ use masks::{Row, Table, empty_row};
 
 // A graph in letters, if they are few enough for a mask: those below `base` stand for symbols, those from there to below `end` are classes.
 // The mask of (u, v) stands at 32u + v. `follow` has for each letter those that may follow it.
-#[derive(Drop)]
+#[derive(Clone, Copy)]
 pub struct Letters {
     pub few: bool,
     pub base: usize,

@@ -1,4 +1,5 @@
 // The numbers that 01 sets and that more than one layer needs, each meaning with one name. specs/Limits.antt has the same for contracts.
+#![tactic(auto)]
 
 // n at most. The parties 0 to 31 are places of a mask, masks of a row and rows of a table.
 pub const MOST_PARTIES: usize = 32;

@@ -165,7 +165,8 @@ module _ {A : Type 0} where
   pub sum_filter : (f : A → ℕ) (p : A → Bool) (l : List A) → sum_of f (filter_by p l) ≡ sum_of (λ x. only_if (p x) (f x)) l
   unfolding sum_of filter_by
   sum_filter f p [] = refl
-  sum_filter f p (x ∷ l) = by_test (p x) (λ q. rw (q, filter_by, sum_filter f p l)) (λ q. rw (q, filter_by) (omega (arith, sum_filter f p l)))
+  sum_filter f p (x ∷ l) =
+      by_test (p x) (λ q. rw (q, filter_by, sum_filter f p l)) (λ q. rw (q, filter_by) (omega (arith, sum_filter f p l)))
 
 -- the greatest value: no less than each, one of them, and no more than a bound of all
 module _ {A : Type 0} (f : A → ℕ) where

@@ -96,7 +96,8 @@ module _ {B : Type 0} (f : ℕ → List B) where
   flat_bound c zero h = omega (arith, flat_none)
   flat_bound c (suc n) h = omega (arith, flat_step n, h n (omega arith), flat_bound c n (λ u l. h u (omega arith)), suc-mul n c)
 
-  pub flat_skip : (c n u : ℕ) → ((v : ℕ) → v < n → length (f v) ≤ c) → u < n → length (f u) ≡ 0 → length (flat_map f (range n)) ≤ (n - 1) * c
+  pub flat_skip : (c n u : ℕ) → ((v : ℕ) → v < n → length (f v) ≤ c) → u < n → length (f u) ≡ 0
+      → length (flat_map f (range n)) ≤ (n - 1) * c
   flat_skip c zero u h l z = absurd (omega arith)
   flat_skip c (suc zero) u h l z =
       let e : u ≡ 0 = omega arith in

@@ -109,7 +109,8 @@ up_append a (suc k) j =
     rw (e, z, up_append (suc a) k j)
 
 -- a test that fails from n on picks the same from a longer range
-pub filter_range : (p : ℕ → Bool) (n m : ℕ) → n ≤ m → ((x : ℕ) → n ≤ x → x < m → p x ≡ false) → filter_by p (range m) ≡ filter_by p (range n)
+pub filter_range : (p : ℕ → Bool) (n m : ℕ) → n ≤ m → ((x : ℕ) → n ≤ x → x < m → p x ≡ false)
+    → filter_by p (range m) ≡ filter_by p (range n)
 unfolding range
 filter_range p n m h f =
     let e : m ≡ n + (m - n) = omega arith in

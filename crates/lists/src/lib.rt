@@ -1,1 +1,2 @@
 // Lists as definitions (specs/) and laws (proofs/); no code.
+#![tactic(auto)]

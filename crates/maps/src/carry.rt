@@ -7,7 +7,7 @@ use limits::MOST_PARTIES;
 use masks::{Row, Table};
 
 // The image of each party.
-#[derive(Drop)]
+#[derive(Clone, Copy)]
 pub struct Map {
     pub image: [u8; MOST_PARTIES],
 }

@@ -11,7 +11,7 @@ use masks::Table;
 const RELATIONS: u32 = 1431655765;
 
 // A map under way: the parties that have an image, and those that are one. Any other image means nothing.
-#[derive(Drop)]
+#[derive(Clone, Copy)]
 pub struct Partial {
     pub map: Map,
     pub mapped: u32,

@@ -1,4 +1,6 @@
 // Sets of up to 32 places as masks of 32 bits, rows of 32 masks, and tables of 32 rows, by value.
+#![tactic(auto)]
+
 ghost use Rattle.std.specs.Prelude.{◌≡◌, true, ◌&&◌, ℕ, ◌<◌};
 ghost use Rattle.limits.specs.Limits.{most_parties, mask_places};
 ghost use Rattle.masks.specs.promises.Mask.{test_bit, with_bit};

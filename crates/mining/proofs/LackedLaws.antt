@@ -109,7 +109,8 @@ module _ {M : Matter} {a : Archive} (S : Shows M a) where
       let v = symbols_in c.word in
       let w = symbols_in r.word in
       by_test r.found
-      (λ y. let k = words_left_fall M p v w (found_some _ r x y) in rw (e, y, words_left_in_lem p v, words_left_in_lem p w) (omega (arith, k)))
+      (λ y. let k =
+      words_left_fall M p v w (found_some _ r x y) in rw (e, y, words_left_in_lem p v, words_left_in_lem p w) (omega (arith, k)))
       (λ y. rw (e, y) (omega arith))
 
   pub longest_in : a.longest ≤ 31

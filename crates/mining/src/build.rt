@@ -15,14 +15,14 @@ use graph::Archive;
 use limits::MOST_PARTIES;
 use masks::Row;
 
-#[derive(Drop)]
+#[derive(Clone, Copy)]
 pub struct Pair {
     pub first: usize,
     pub second: usize,
 }
 
 // What came of a pair: it has no word, it has this rival, or it has its term, which ends at the place.
-#[derive(Drop)]
+#[derive(Clone, Copy)]
 pub enum Outcome {
     NoWord,
     Rival(Pair),

@@ -19,14 +19,14 @@ const MOST_KEPT: usize = 64;
 pub const KEPT_SIZE: usize = 2050;
 
 // The words kept, as a term from place 0 on: how many they are, and where they end.
-#[derive(Drop)]
+#[derive(Clone, Copy)]
 pub struct Kept {
     pub number: usize,
     pub end: usize,
 }
 
 // The first word lacked, where there is one, and the words kept then.
-#[derive(Drop)]
+#[derive(Clone, Copy)]
 pub struct Lacked {
     pub next: Next,
     pub kept: Kept,

@@ -1,4 +1,6 @@
 // The terms of mining: the words that tell one pair from another, a term as it grows, and the pairs in turn.
+#![tactic(auto)]
+
 mod build;
 mod kept;
 mod lacked;

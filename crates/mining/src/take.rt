@@ -19,7 +19,7 @@ use limits::MOST_PARTIES;
 use masks::Row;
 
 // What came of a pair in its turn: its outcome, and the pairs that the list permits then.
-#[derive(Drop)]
+#[derive(Clone, Copy)]
 pub struct PairTurn {
     pub outcome: Outcome,
     pub marks: Row,

@@ -132,6 +132,21 @@ module _ (M : Matter) (s : Archive) (h : Shows M s) where
   unfolding legal_given_word
   shown_legal w = rw (h.longest, h.labels, h.language)
 
+-- the two tests as the code computes them, of any matter that the archive stands for
+pub pair_is : (M : Matter) (s : Archive) → Shows M s → (a b : ℕ) {r v : Bool} → r ≡ is_pair s.parties a b → r ≡ v
+    → is_pair M.parties a b ≡ v
+pair_is M s h a b e t = sym (shown_pair M s h a b) ∙ sym e ∙ t
+
+pub legal_is :
+    (M : Matter) (s : Archive) → Shows M s → (w : Word) {r v : Bool}
+    → r ≡ (leb w.len s.longest && all_of (legal_symbol s.labels s.language) (symbols_in w)) → r ≡ v → legal_given_word M w ≡ v
+legal_is M s h w e t = sym (shown_legal M s h w) ∙ sym e ∙ t
+
+pub short_given :
+    (s : Archive) → ((M : Matter) × Shows M s) → (w : Word) → length w.symbols ≡ 31 → {r : Bool}
+    → r ≡ (leb w.len s.longest && all_of (legal_symbol s.labels s.language) (symbols_in w)) → r ≡ true → Short w
+short_given s p w n e t = legal_short p.0 p.1.limits w n (legal_is p.0 s p.1 w e t)
+
 -- the path call, by the outcome of its tests
 module _ (M : Matter) (a b : ℕ) (w : Word) (size : ℕ) where
   pub path_pair : is_pair M.parties a b ≡ false → path_in M a b w size ≡ refuses PartyPair

@@ -16,7 +16,7 @@ use words::next_word;
 
 // What both calls reply: refused, nothing to write, or the number of bytes written. `said_word` gives 01's number and values of each;
 // equal ones mean equal replies (`word_said`).
-#[derive(Drop)]
+#[derive(Clone, Copy)]
 pub enum WordReply {
     Refused(Refusal),
     Nothing,
@@ -69,7 +69,7 @@ fn path_in(a: Archive, first: usize, second: usize, w: Word, out: &mut [u8]) -> 
         let mut parties = f.parties;
         parties[0] = first as u8;
         let count = u32::count_ones(f.visited) as usize;
-        bytes::copy(&parties[..count], out);
+        out[..count].copy_from_slice(&parties[..count]);
         return WordReply::Wrote(count);
     }
     WordReply::Nothing
@@ -98,7 +98,7 @@ fn next_in(a: Archive, first: usize, second: usize, w: Word, out: &mut [u8]) -> 
         let v = c.word;
         let len = v.len;
         let symbols = v.symbols;
-        bytes::copy(&symbols[..len], out);
+        out[..len].copy_from_slice(&symbols[..len]);
         return WordReply::Wrote(len);
     }
     WordReply::Nothing

@@ -1,4 +1,6 @@
 // The path and next-word calls.
+#![tactic(auto)]
+
 mod call;
 
 pub use call::{WordReply, legal_given_word, next_call, path_call};

@@ -1,1 +1,1 @@
-pub mod ReadLaws
+pub mod StartLaws

@@ -338,7 +338,8 @@ module _ (al : List ℕ) (g : Graph ℕ) (listed : (u v s : ℕ) → g.edge u v 
   module _ (up : Ascending ltb al) where
     -- the symbols may be tried as numbers below any bound on the alphabet: others are never chosen
     pub symbol_below : (m : ℕ) → ((s : ℕ) → Memᴰ s al → s < m) → (fixed : Word) (floor k : ℕ)
-        → least_symbol al g p fixed floor k ≡ first_by (λ s. leb floor s && find_form al g p (fixed_then_free (fixed ++ (s ∷ [])) k)) (range m)
+        → least_symbol al g p fixed floor k ≡ first_by (λ s. leb floor s && find_form al g p (fixed_then_free (fixed ++ (s ∷ [])) k))
+        (range m)
     unfolding least_symbol chosen_form extends_form
     symbol_below m bound fixed floor k =
         first_agree ltb
@@ -522,7 +523,8 @@ module _ (al : List ℕ) (g : Graph ℕ) (p : Pair) (w : Word) where
   same_end = rw (drop-length w)
 
   pub same_step : (i : ℕ) → i < length w → next_same_length al g p (take i w) (drop i w)
-      ≡ or_else (next_same_length al g p (take (suc i) w) (drop (suc i) w)) (complete al g p (take i w) (suc (get_or w i 0)) (length w - suc i))
+      ≡ or_else (next_same_length al g p (take (suc i) w) (drop (suc i) w))
+      (complete al g p (take i w) (suc (get_or w i 0)) (length w - suc i))
   unfolding next_same_length
   same_step i h = rw (drop-cons w i 0 h, take-suc w i 0 h, length-drop (suc i) w)
 

@@ -59,7 +59,8 @@ module _ (g : Graph ℕ) (p q : Pair) (al : List ℕ) where
       or_none (some w) = refl
   first_cut (suc j) k d e =
       first_cut j (suc k) d (omega arith)
-      ∙ ap (λ o. or_else o (first_telling_longer g p q al (suc k) j)) (find_append (tells g p q) (words_up_to al k) (words_of_length al (suc k)))
+      ∙ ap (λ o. or_else o (first_telling_longer g p q al (suc k) j))
+      (find_append (tells g p q) (words_up_to al k) (words_of_length al (suc k)))
       ∙ or_assoc (first_by (tells g p q) (words_up_to al k)) _ _
 
 -- a pair that scores as high at every word lacks none

@@ -10,7 +10,8 @@ use lib.ListN.{length, length-append}
 use borrow.Author.Tests.{leb-true, ltb-true, ltb-false, le-leb, lt-leb, not-true, not-false}
 use Rattle.lists.specs.Lists.{all_of, first_by}
 use Rattle.lists.proofs.Cases.{by_test, by_found, by_mem, by_last, both, and_false, and_left, and_right}
-use Rattle.lists.proofs.ListLaws.{all_of_lem, filter_in, filter_out, find_none, find_some, find_in, all_append, any_append, all_one, any_one}
+use Rattle.lists.proofs.ListLaws.{all_of_lem, filter_in, filter_out, find_none, find_some}
+use Rattle.lists.proofs.ListLaws.{find_in, all_append, any_append, all_one, any_one}
 use Rattle.rebac.specs.Rules.{Problem, Item, Term, RuleList, meets_item, meets, permits}
 use Rattle.rebac.specs.Verdict.{words_of, covers}
 use Rattle.rebac.specs.Mining.{item_of, lacks, add_against, add_all, begin, term_of, mine_from, mine}
@@ -98,8 +99,9 @@ module _ {P W : Type 0} (S : Problem P W) where
   shuts p q t {qs = []} m u c = absurd (Memᴰ.not-nil m)
   shuts p q t {qs = x ∷ qs} m u c =
       by_mem m
-      (λ e. add_all_lem (λ t. meets S q t ≡ false) p (λ t w n h. keeps_out p q t w h) (add_against S p t x) qs (rw (← e) (shuts_step p q t u c)))
-      (λ n. shuts p q (add_against S p t x) n u c)
+      (λ e. add_all_lem (λ t. meets S q t ≡ false) p (λ t w n h. keeps_out p q t w h) (add_against S p t x) qs
+      (rw (← e) (shuts_step p q t u c)))
+      (λ n. shuts p q (add_against S p t x) {qs = qs} n u c)
 
   pub term_shuts : (p q : P) → Memᴰ q S.pairs → S.permitted q ≡ false → covers S p q ≡ false → meets S q (term_of S p) ≡ false
   unfolding term_of
@@ -192,10 +194,10 @@ module _ {P W : Type 0} (S : Problem P W) where
   mine_has q r {ps = []} m u = absurd (Memᴰ.not-nil m)
   mine_has q r {ps = p ∷ ps} m u =
       mine_step (λ x. permits S x q ≡ true) r p ps
-      (λ e. by_mem m (λ x. keeps_permit q r ps (not-false _ (rw (← x, u) at e))) (λ n. mine_has q r n u))
+      (λ e. by_mem m (λ x. keeps_permit q r ps (not-false _ (rw (← x, u) at e))) (λ n. mine_has q r {ps = ps} n u))
       (λ a b. by_mem m
       (λ x. keeps_permit q (r ++ (term_of S p ∷ [])) ps (permits_last r (term_of S p) q (rw x b) ∙ rw (← x) (own_term q)))
-      (λ n. mine_has q (r ++ (term_of S p ∷ [])) n u))
+      (λ n. mine_has q (r ++ (term_of S p ∷ [])) {ps = ps} n u))
 
   pub mined_has : (q : P) → Memᴰ q S.pairs → S.permitted q ≡ true → permits S (mine S) q ≡ true
   unfolding mine

@@ -31,7 +31,8 @@ use Rattle.rebac.proofs.WordTestLaws.{from_one, last_cons, length_way, way_lengt
 module _ {A : Type 0} where
   reverse_out : (l : List A) {x : A} → Memᴰ x (reverse l) → Memᴰ x l
   reverse_out [] m = absurd (mathlib.Core.List.Memᴰ.not-nil m)
-  reverse_out (y ∷ l) m = by_last (reverse l) (rw (reverse-cons y l) at m) (λ n. mathlib.Core.List.Memᴰ.tail (reverse_out l n)) (λ e. mathlib.Core.List.Memᴰ.head e)
+  reverse_out (y ∷ l) m =
+      by_last (reverse l) (rw (reverse-cons y l) at m) (λ n. mathlib.Core.List.Memᴰ.tail (reverse_out l n)) (λ e. mathlib.Core.List.Memᴰ.head e)
 
   -- the first symbols of the list read from its end are its last ones
   take_reverse : (k : ℕ) (l : List A) → k ≤ length l → take k (reverse l) ≡ reverse (last_symbols k l)
@@ -251,7 +252,8 @@ module _ {S K : Type 0} (g : Graph S) (seen : ℕ → K → Bool) (mark : ℕ �
         record {
           walk = t.2.walk;
           simple = t.2.simple.1;
-          unseen = λ y n k. by_mem k (λ e. t.2.simple.0 (rw e at n)) (λ j. by_mem j (λ e. free (rw e at n)) (λ z. mathlib.Core.List.Memᴰ.not-nil z));
+          unseen = λ y n k. by_mem k (λ e. t.2.simple.0 (rw e at n))
+              (λ j. by_mem j (λ e. free (rw e at n)) (λ z. mathlib.Core.List.Memᴰ.not-nil z));
         } in
         reach_way (reverse w) v past p.second x.start m (reach_in (turned g) past p.second x.start (reverse w) t.0 o)
 

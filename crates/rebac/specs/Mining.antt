@@ -37,7 +37,8 @@ module _ {P W : Type 0} (S : Problem P W) where
   -- 01: "takes the permitted pairs in order and leaves out one that an earlier term permits"
   unfoldable pub mine_from : RuleList W → List P → RuleList W
   mine_from r [] = r
-  mine_from r (p ∷ ps) = elim (S.permitted p && not (permits S r p)) [ true ↦ mine_from (r ++ (term_of p ∷ [])) ps | false ↦ mine_from r ps ]
+  mine_from r (p ∷ ps) =
+      elim (S.permitted p && not (permits S r p)) [ true ↦ mine_from (r ++ (term_of p ∷ [])) ps | false ↦ mine_from r ps ]
 
   unfoldable pub mine : RuleList W
   mine = mine_from [] S.pairs

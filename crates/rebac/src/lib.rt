@@ -1,1 +1,2 @@
 // The mathematics of document 000 as definitions (specs/) and theorems (proofs/); no code.
+#![tactic(auto)]

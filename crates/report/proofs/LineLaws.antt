@@ -30,4 +30,5 @@ no_word_length p = omega (arith, length-append (pair_text p) (no_word_text ++ li
 
 pub rival_length : (p q : Pair) → length (verdict_line (Rival p q)) ≡ 16 + (length (pair_text p) + (7 + (length (pair_text q) + 1)))
 unfolding verdict_line
-rival_length p q = omega (arith, length-append (pair_text p) (rival_text ++ (pair_text q ++ line_end)), length-append (pair_text q) line_end)
+rival_length p q =
+    omega (arith, length-append (pair_text p) (rival_text ++ (pair_text q ++ line_end)), length-append (pair_text q) line_end)

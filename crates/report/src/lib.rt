@@ -1,4 +1,6 @@
 // The text that permitconv prints.
+#![tactic(auto)]
+
 mod line;
 mod report;
 

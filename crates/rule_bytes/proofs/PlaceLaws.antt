@@ -20,6 +20,7 @@ use Rattle.rule_bytes.specs.ListBytes.{encode_word, encode_term, encode_list, Pa
 use Rattle.rule_bytes.specs.ListBytes.{LegalList}
 use Rattle.graph.specs.Legal.{legal_symbol}
 use Rattle.rule_bytes.specs.promises.Reading.{WordFits, word_at, FitWord, FitTerm, FitList, TermAt, IsList}
+use Rattle.rule_bytes.specs.declared.read.WordRead.{WordRead}
 use Rattle.fields.proofs.NumberLaws.{u16_size}
 use Rattle.rule_bytes.proofs.RoundTrip.{count_encode}
 use Rattle.rule_bytes.proofs.ReadingLaws.{drop_on, count_here}
@@ -73,6 +74,10 @@ module _ (b : List ℕ) (at : ℕ) (w s : List ℕ) (here : drop at b ≡ encode
 
   pub word_value : (word_at b at).word ≡ word_of w
   word_value = let k : take (get_or b at 0) (drop (at + 1) b) ≡ w = rw (word_byte, word_tail) (take-append_seam w s) in ap word_of k
+
+  -- the same of a word that was read there
+  pub word_read : {r : WordRead} → r ≡ word_at b at → r.word ≡ word_of w
+  word_read e = ap (λ (r : WordRead). r.word) e ∙ word_value
 
   pub word_next : drop (word_at b at).next b ≡ s
   word_next = rw word_byte (sym (drop_on b (at + 1) (length w)) ∙ rw word_tail (drop-append_seam w s))

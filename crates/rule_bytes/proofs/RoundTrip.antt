@@ -163,5 +163,6 @@ list_size l = omega (arith, length-append (u16_bytes (length l)) (flat_map encod
 pub words_more : (t : List (List ℕ)) (w : List ℕ) → flat_map encode_word (t ++ (w ∷ [])) ≡ flat_map encode_word t ++ encode_word w
 words_more t w = flat_snoc encode_word t w
 
-pub terms_more : (l : List (List (List ℕ))) (t : List (List ℕ)) → flat_map encode_term (l ++ (t ∷ [])) ≡ flat_map encode_term l ++ encode_term t
+pub terms_more : (l : List (List (List ℕ))) (t : List (List ℕ))
+    → flat_map encode_term (l ++ (t ∷ [])) ≡ flat_map encode_term l ++ encode_term t
 terms_more l t = flat_snoc encode_term l t

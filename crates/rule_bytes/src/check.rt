@@ -11,7 +11,7 @@ ghost use Rattle.rule_bytes.specs.promises.Reading.{Passes, SymbolRange};
 use fields::{u16_at, wide};
 
 // Where the bytes after a part begin, or that the part breaks the layout.
-#[derive(Drop)]
+#[derive(Clone, Copy)]
 pub enum Passed {
     To(usize),
     Broken,

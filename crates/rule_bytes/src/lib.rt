@@ -1,4 +1,6 @@
 // The bytes of rule lists: checked, read and written.
+#![tactic(auto)]
+
 mod check;
 mod read;
 mod write;

@@ -9,7 +9,7 @@ use limits::WORD_CAPACITY;
 use search::Word;
 
 // A word, and the place after it.
-#[derive(Drop)]
+#[derive(Clone, Copy)]
 pub struct WordRead {
     pub word: Word,
     pub next: usize,

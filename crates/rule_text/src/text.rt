@@ -24,8 +24,8 @@ fn hex_digit(d: u8) -> u8
 // A symbol, and a dot unless it is the last.
 fn put_symbol_text(out: &mut [u8], at: usize, s: u8, last: bool) -> usize
     requires { at + 3 ≤ length out.old }
-    ensures out_after { out.new ≡ put out.old at (symbol_text s ++ pick last [] dot) }
-    ensures value { result ≡ at + length (symbol_text s ++ pick last [] dot) }
+    ensures bytes { out.new ≡ put out.old at (symbol_text s ++ pick last [] dot) }
+    ensures place { result ≡ at + length (symbol_text s ++ pick last [] dot) }
 {
     out[at] = hex_digit(s / 16);
     out[at + 1] = hex_digit(s % 16);
@@ -38,8 +38,8 @@ fn put_symbol_text(out: &mut [u8], at: usize, s: u8, last: bool) -> usize
 
 fn put_word_text(out: &mut [u8], at: usize, w: Word) -> usize
     requires { (w.len ≤ word_capacity) × (at + 3 * w.len ≤ length out.old) }
-    ensures out_after { out.new ≡ put out.old at (word_text (symbols_in w)) }
-    ensures value { result ≡ at + length (word_text (symbols_in w)) }
+    ensures bytes { out.new ≡ put out.old at (word_text (symbols_in w)) }
+    ensures place { result ≡ at + length (word_text (symbols_in w)) }
 {
     let len = w.len;
     let mut end = at;
@@ -54,8 +54,8 @@ fn put_word_text(out: &mut [u8], at: usize, w: Word) -> usize
 // A word of a term, and what follows it.
 fn put_entry_text(out: &mut [u8], at: usize, w: Word, last: bool) -> usize
     requires { (w.len ≤ word_capacity) × (at + 3 * w.len + 3 ≤ length out.old) }
-    ensures out_after { out.new ≡ put out.old at (word_text (symbols_in w) ++ pick last line_end ampersand) }
-    ensures value { result ≡ at + length (word_text (symbols_in w) ++ pick last line_end ampersand) }
+    ensures bytes { out.new ≡ put out.old at (word_text (symbols_in w) ++ pick last line_end ampersand) }
+    ensures place { result ≡ at + length (word_text (symbols_in w) ++ pick last line_end ampersand) }
 {
     let end = put_word_text(out, at, w);
     if last {
@@ -69,7 +69,7 @@ fn put_entry_text(out: &mut [u8], at: usize, w: Word, last: bool) -> usize
 }
 
 // The place after a term, and the place after its text.
-#[derive(Drop)]
+#[derive(Clone, Copy)]
 pub struct TermText {
     pub next: usize,
     pub end: usize,

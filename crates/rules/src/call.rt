@@ -13,7 +13,7 @@ use masks::Table;
 use rule_bytes::{check_list, read_word};
 
 // `said_permit` gives 01's number and values of each reply; equal ones mean equal replies (`permit_said`).
-#[derive(Drop)]
+#[derive(Clone, Copy)]
 pub enum PermitReply {
     Refused(Refusal),
     Yes,
@@ -21,7 +21,7 @@ pub enum PermitReply {
 }
 
 // Whether the pair meets a term, and the place after the term.
-#[derive(Drop)]
+#[derive(Clone, Copy)]
 pub struct TermMet {
     pub met: bool,
     pub next: usize,

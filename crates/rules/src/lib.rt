@@ -1,4 +1,6 @@
 // What a rule list permits: the permit call.
+#![tactic(auto)]
+
 mod call;
 
 pub use call::{PermitReply, TermMet, meets_list, meets_term, permit_call};

@@ -1,5 +1,6 @@
 -- The last two steps: a candidate leads on where it is neither visited nor the target and has a last step. Assumes nothing.
-use Rattle.std.proofs.Common.{◌≡◌, ℕ, zero, suc, ◌+◌, ◌/◌, ◌%◌, ◌^◌, ◌<◌, ◌≤◌, true, false, not, ◌&&◌, eqb, List, [], ◌∷◌, get_or, set, replicate, sym, refl, ap, ◌∙◌, mod-lt, arith, lit<, length-set, get_or-set_same}
+use Rattle.std.proofs.Common.{◌≡◌, ℕ, zero, suc, ◌+◌, ◌/◌, ◌%◌, ◌^◌, ◌<◌, ◌≤◌, true, false, not, ◌&&◌, eqb}
+use Rattle.std.proofs.Common.{List, [], ◌∷◌, get_or, set, replicate, sym, refl, ap, ◌∙◌, mod-lt, arith, lit<, length-set, get_or-set_same}
 use mathlib.Core.Logic.{by_cases}
 use mathlib.Core.Option.{Option, none, some}
 use native.Mathlib.Decide.{ℕ_discrete}

@@ -1,6 +1,7 @@
 -- A path has another party at each place: where fewer parties are left than places it has none. By induction over the places, since each
 -- step takes one of the parties left. Assumes nothing.
-use Rattle.std.proofs.Common.{◌≡◌, ℕ, zero, suc, ◌+◌, ◌-◌, ◌/◌, ◌%◌, ◌^◌, ◌<◌, ◌≤◌, Bool, true, false, not, ◌&&◌, eqb, List, [], ◌∷◌, length, drop, sym, refl, ap, ◌∙◌, mod-lt, div-one, arith, lit<, length-drop, shr-shr, eqb-true}
+use Rattle.std.proofs.Common.{◌≡◌, ℕ, zero, suc, ◌+◌, ◌-◌, ◌/◌, ◌%◌, ◌^◌, ◌<◌, ◌≤◌, Bool, true, false, not, ◌&&◌, eqb}
+use Rattle.std.proofs.Common.{List, [], ◌∷◌, length, drop, sym, refl, ap, ◌∙◌, mod-lt, div-one, arith, lit<, length-drop, shr-shr, eqb-true}
 use mathlib.Core.Logic.{by_cases}
 use mathlib.Core.Option.{none}
 use native.Mathlib.Decide.{ℕ_discrete}

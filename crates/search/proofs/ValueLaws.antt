@@ -18,7 +18,8 @@ pub value_full : (w : List ℕ) → length w ≤ 31 → length (word_of w).symbo
 value_full w h = omega (arith, length-append w (replicate (31 - length w) 0), length-replicate {A = ℕ} (31 - length w) 0)
 
 -- what bounds the symbols bounds the value's 31
-pub value_below : (bound : ℕ) → 0 < bound → (w : List ℕ) → ((i : ℕ) → get_or w i 0 < bound) → (i : ℕ) → get_or (word_of w).symbols i 0 < bound
+pub value_below : (bound : ℕ) → 0 < bound → (w : List ℕ) → ((i : ℕ) → get_or w i 0 < bound) → (i : ℕ)
+    → get_or (word_of w).symbols i 0 < bound
 value_below bound h w f i =
     by_cases (dec_lt i (length w))
     (λ k. rw (get_or-append w (replicate (31 - length w) 0) 0 i k) (f i))

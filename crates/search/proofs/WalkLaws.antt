@@ -1,5 +1,6 @@
 -- Backwards over the places: a party whose candidates each fail the place's test, or have no path onward, has no path. Assumes nothing.
-use Rattle.std.proofs.Common.{◌≡◌, ℕ, zero, suc, ◌+◌, ◌-◌, ◌/◌, ◌%◌, ◌^◌, ◌<◌, ◌≤◌, true, false, List, [], ◌∷◌, get_or, sym, refl, ap, ◌∙◌, div-one, arith, shr-shr, ne_eqb}
+use Rattle.std.proofs.Common.{◌≡◌, ℕ, zero, suc, ◌+◌, ◌-◌, ◌/◌, ◌%◌, ◌^◌, ◌<◌, ◌≤◌, true, false}
+use Rattle.std.proofs.Common.{List, [], ◌∷◌, get_or, sym, refl, ap, ◌∙◌, div-one, arith, shr-shr, ne_eqb}
 use mathlib.Core.Logic.{by_cases}
 use mathlib.Core.Option.{none}
 use native.Mathlib.Decide.{dec_lt, ℕ_discrete}
@@ -91,7 +92,8 @@ zeros_on zero n h = absurd (omega arith)
 zeros_on (suc k) n h = go (n % 2) refl h (zeros_on k (n / 2))
   where
     go : (r : ℕ) → n % 2 ≡ r → under r (count_trailing_zeros k (n / 2)) < suc k
-        → (count_trailing_zeros k (n / 2) < k → n / 2 / 2 ^ count_trailing_zeros k (n / 2) % 2 ≡ 1) → n / 2 ^ under r (count_trailing_zeros k (n / 2)) % 2 ≡ 1
+        → (count_trailing_zeros k (n / 2) < k → n / 2 / 2 ^ count_trailing_zeros k (n / 2) % 2 ≡ 1)
+        → n / 2 ^ under r (count_trailing_zeros k (n / 2)) % 2 ≡ 1
     go zero e l ih =
         let z : ℕ = count_trailing_zeros k (n / 2) in
         ap (λ (x : ℕ). x % 2) (ap (λ (j : ℕ). n / 2 ^ j) (omega arith) ∙ sym (shr-shr n 1 z)) ∙ ih (omega arith)

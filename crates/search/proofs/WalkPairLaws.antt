@@ -1,5 +1,6 @@
 -- A path is a walk: backwards over a word, a pair that the row lacks has no walk, and so no path. Assumes nothing.
-use Rattle.std.proofs.Common.{◌≡◌, ℕ, suc, ◌+◌, ◌-◌, ◌<◌, ◌≤◌, true, false, List, [], ◌∷◌, get_or, drop, sym, ap, ◌∙◌, arith, drop_of_length-le, drop-cons, get_or-take}
+use Rattle.std.proofs.Common.{◌≡◌, ℕ, suc, ◌+◌, ◌-◌, ◌<◌, ◌≤◌, true, false, List, []}
+use Rattle.std.proofs.Common.{◌∷◌, get_or, drop, sym, ap, ◌∙◌, arith, drop_of_length-le, drop-cons, get_or-take}
 use mathlib.Core.Logic.{by_cases}
 use native.Mathlib.Decide.{ℕ_discrete}
 use lib.Bits.{bit_or}

@@ -1,4 +1,6 @@
 // The search over the enlarged graph from a pair's first party on, for paths and for forms of words.
+#![tactic(auto)]
+
 mod last;
 mod pair;
 mod pairs;

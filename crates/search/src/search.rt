@@ -12,7 +12,7 @@ use masks::Table;
 
 // What a search found: whether there is a path, its parties as a mask, and its parties in order from place 0.
 // Where there is none, `tried` says how many parties the search entered, short of the last three places.
-#[derive(Drop)]
+#[derive(Clone, Copy)]
 pub struct Found {
     pub found: bool,
     pub visited: u32,

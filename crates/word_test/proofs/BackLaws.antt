@@ -1,5 +1,6 @@
 -- The search back turn by turn: the candidates in ascending order add up, and the last two steps are counted by a mask. Assumes nothing.
-use Rattle.std.proofs.Common.{◌≡◌, ℕ, zero, suc, ◌+◌, ◌-◌, ◌/◌, ◌%◌, ◌^◌, ◌<◌, ◌≤◌, min, max, Bool, true, false, not, ◌&&◌, eqb, ltb, [], ◌∷◌, get_or, sym, refl, ap, ◌∙◌, ⊎_elim, div-one, arith, shr-shr, ltb-true, le-ltb, lt-ltb, eq-eqb, ne_eqb}
+use Rattle.std.proofs.Common.{◌≡◌, ℕ, zero, suc, ◌+◌, ◌-◌, ◌/◌, ◌%◌, ◌^◌, ◌<◌, ◌≤◌, min, max, Bool, true, false, not, ◌&&◌}
+use Rattle.std.proofs.Common.{eqb, ltb, [], ◌∷◌, get_or, sym, refl, ap, ◌∙◌, ⊎_elim, div-one, arith, shr-shr, ltb-true, le-ltb, lt-ltb, eq-eqb, ne_eqb}
 use mathlib.Core.List.{Memᴰ}
 use mathlib.Core.Logic.{by_cases}
 use native.Mathlib.Decide.{dec_lt, ℕ_discrete}
@@ -36,7 +37,8 @@ unfolding ones
 ones_zero = refl
 
 -- a mask's ones are its places, where it has none from n on
-ones_from : (m k a : ℕ) → ((c : ℕ) → a + k ≤ c → test_bit m c ≡ false) → ones (m / 2 ^ a) ≡ sum_of (λ c. only_if (test_bit m c) 1) (up_from a k)
+ones_from : (m k a : ℕ) → ((c : ℕ) → a + k ≤ c → test_bit m c ≡ false)
+    → ones (m / 2 ^ a) ≡ sum_of (λ c. only_if (test_bit m c) 1) (up_from a k)
 unfolding sum_of up_from test_bit
 ones_from m zero a f =
     by_cases (ℕ_discrete (m / 2 ^ a) 0)
@@ -302,7 +304,8 @@ module _ {n : ℕ} {t : Table} {w : Word} {starts deep : ℕ} {row : Row} (h : S
     three_far k c l = rw (stand c l, leaf_far (seconds_leaf (with_bit visited c) c l) k)
 
     pub three_back : 3 ≤ w.len → {cap : ℕ} {r : Back} → LastThree mask row visited starts cap n w.len deep r
-        → BackAs cap (ways_from n t starts visited u (symbols_back w 1 2)) deep (w.len - 3 + depth_from n t visited u (symbols_back w 1 2)) r
+        → BackAs cap (ways_from n t starts visited u (symbols_back w 1 2)) deep
+        (w.len - 3 + depth_from n t visited u (symbols_back w 1 2)) r
     three_back l {cap} g =
         all_candidates n t w starts visited u 2 (omega arith) (w.len - 3) (record {
           count = g.count ∙ ap (min cap) (sum_same _ _ (range n) (λ c m. three_ways c (range_out n m)));

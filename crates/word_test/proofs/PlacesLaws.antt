@@ -82,7 +82,8 @@ module _ {w : Word} {cap n second deep : ℕ} (q : Places w cap n second deep) (
   pub places_nowhere : w.len ≤ deep + 1 → starts ≡ 0 → {r : Back} → r.count ≡ 0 → r.depth ≡ deep → Searched r
   places_nowhere l e {r} k d =
       let none : ways_from n t starts visited second (symbols_back w 1 (w.len - 1)) ≡ 0 =
-      count_none (table_graph n t) (λ c x. test_bit x c) (λ c x. with_bit x c) (test_bit starts) (symbols_back w 1 (w.len - 1)) visited second
+      count_none (table_graph n t) (λ c x. test_bit x c) (λ c x. with_bit x c) (test_bit starts)
+      (symbols_back w 1 (w.len - 1)) visited second
       (way_none (table_graph n t) (λ c x. test_bit x c) (λ c x. with_bit x c) (test_bit starts) (λ c. ap (λ (m : ℕ). test_bit m c) e
       ∙ zero_bit c)
       (symbols_back w 1 (w.len - 1)) visited second) in

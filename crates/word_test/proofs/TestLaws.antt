@@ -1,6 +1,7 @@
 -- The search back of a pair is the word test: the places after the first, read back, are the rest of the word, and the ways to a party
 -- that the first symbol leads to are the pair's paths. Assumes nothing.
-use Rattle.std.proofs.Common.{◌≡◌, ℕ, zero, suc, ◌+◌, ◌-◌, ◌/◌, ◌^◌, ◌<◌, ◌≤◌, min, max, Bool, true, false, ◌||◌, eqb, leb, List, [], ◌∷◌, reverse, length, get_or, take, sym, refl, ap, ◌∙◌, ⊎_elim, arith, take-suc, lt-ltb, le-leb, leb-false}
+use Rattle.std.proofs.Common.{◌≡◌, ℕ, zero, suc, ◌+◌, ◌-◌, ◌/◌, ◌^◌, ◌<◌, ◌≤◌, min, max, Bool, true, false, ◌||◌, eqb, leb}
+use Rattle.std.proofs.Common.{List, [], ◌∷◌, reverse, length, get_or, take, sym, refl, ap, ◌∙◌, ⊎_elim, arith, take-suc, lt-ltb, le-leb, leb-false}
 use mathlib.Core.List.{reverse-append}
 use lib.Bits.{bit_and}
 use Rattle.lists.specs.Lists.{any_of}
@@ -91,7 +92,8 @@ module _ {n first second : ℕ} {w : Word} (q : PairQuery n first second w) (t :
   depth_length h =
       let r = parts w h fits in
       ap (depth_back (table_graph n t) (λ c v. test_bit v c) (λ c v. with_bit v c) (with_bit (with_bit 0 first) second) second) r.back
-      ∙ back_length (table_graph n t) (λ c v. test_bit v c) (λ c v. with_bit v c) (λ c d v l k. mark_law c d v) (pair first second) q.is_pair
+      ∙ back_length (table_graph n t) (λ c v. test_bit v c) (λ c v. with_bit v c) (λ c d v l k. mark_law c d v)
+      (pair first second) q.is_pair
       (with_bit (with_bit 0 first) second) marks (get_or w.symbols 0 0) r.rest
       ∙ ap (way_length (table_graph n t) (pair first second)) (sym r.whole)
 
@@ -142,7 +144,8 @@ module _ {n first second : ℕ} {w : Word} (q : PairQuery n first second w) (t :
   found_depth h starts {cap} {deep} g z = g.depth z ∙ ap (max deep) (depth_length h)
 
   -- the word test, out of a count with cap 1
-  counted : leb 1 (path_count (table_graph n t) 1 (pair first second) (symbols_in w)) ≡ has (table_graph n t) (pair first second) (symbols_in w)
+  counted : leb 1 (path_count (table_graph n t) 1 (pair first second) (symbols_in w)) ≡ has (table_graph n t) (pair first second)
+      (symbols_in w)
   counted = count_has (table_graph n t) 1 (omega arith) (pair first second) (symbols_in w)
 
   pub test_no : {k : ℕ} → k ≡ path_count (table_graph n t) 1 (pair first second) (symbols_in w) → k ≡ 0

@@ -1,6 +1,7 @@
 -- Onwards over the places: a party to which no symbol leads from one with a way back has none. A way has another party at each place: where
 -- fewer parties are left than it needs there is none. Assumes nothing.
-use Rattle.std.proofs.Common.{◌≡◌, ℕ, zero, suc, ◌+◌, ◌-◌, ◌<◌, ◌≤◌, true, false, not, ◌&&◌, leb, length, get_or, take, sym, refl, ap, ◌∙◌, arith, leb-false, leb-true}
+use Rattle.std.proofs.Common.{◌≡◌, ℕ, zero, suc, ◌+◌, ◌-◌, ◌<◌, ◌≤◌, true, false, not, ◌&&◌, leb}
+use Rattle.std.proofs.Common.{[], ◌∷◌, length, get_or, take, sym, refl, ap, ◌∙◌, arith, leb-false, leb-true}
 use lib.Bits.{bit_or}
 use lib.Count.{ones}
 use borrow.Author.Tests.{not-true}
@@ -30,14 +31,21 @@ unfolding symbols_back
 back_length w from zero = refl
 back_length w from (suc k) = ap suc (back_length w from k)
 
-pub back_take : (w : Word) (k m : ℕ) → k ≤ m → take k (symbols_back w 1 m) ≡ symbols_back w (1 + m - k) k
+back_none : (w : Word) (from : ℕ) → symbols_back w from 0 ≡ []
 unfolding symbols_back
-back_take w zero m h = refl
+back_none w from = refl
+
+back_one : (w : Word) (from k : ℕ) → symbols_back w from (suc k) ≡ get_or w.symbols (from + k) 0 ∷ symbols_back w from k
+unfolding symbols_back
+back_one w from k = refl
+
+pub back_take : (w : Word) (k m : ℕ) → k ≤ m → take k (symbols_back w 1 m) ≡ symbols_back w (1 + m - k) k
+back_take w zero m h = sym (back_none w (1 + m - 0))
 back_take w (suc k) zero h = absurd (omega arith)
 back_take w (suc k) (suc m) h =
     let e : 1 + suc m - suc k ≡ 1 + m - k = omega arith in
     let i : 1 + m - k + k ≡ 1 + m = omega arith in
-    rw (e, i, back_take w k m (omega arith))
+    rw (e, back_one w 1 m, back_one w (1 + m - k) k, i, back_take w k m (omega arith))
 
 module _ (n : ℕ) (t : Table) (w : Word) (starts from visited : ℕ) where
   -- no party before a party v that was passed has a way back: then v has none

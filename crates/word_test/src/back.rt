@@ -10,7 +10,7 @@ use search::Word;
 
 // What a search back found: the number of ways, cut at a cap; where there is none, along how many symbols it got.
 // `tried` says how many parties the search entered, short of the last three places.
-#[derive(Drop)]
+#[derive(Clone, Copy)]
 pub struct Back {
     pub count: u32,
     pub depth: usize,

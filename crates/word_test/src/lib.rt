@@ -1,4 +1,6 @@
 // The word test: whether a pair has a word, from the word's last symbol back to its first, and how far it gets.
+#![tactic(auto)]
+
 mod back;
 mod step;
 mod test;

@@ -99,7 +99,7 @@ pub fn search_back(
 
 // What the word test returns: whether the pair has the word; and the word's length, or else that of the word's longest end that a path to
 // the second party has which does not touch the first.
-#[derive(Drop)]
+#[derive(Clone, Copy)]
 pub struct Tested {
     pub yes: bool,
     pub length: usize,

@@ -12,7 +12,7 @@ use masks::Table;
 use search::{Word, search_pair};
 
 // A word, where there is one.
-#[derive(Drop)]
+#[derive(Clone, Copy)]
 pub struct Next {
     pub found: bool,
     pub word: Word,

@@ -39,7 +39,8 @@ pub record BackAs (cap ways deep far : ℕ) (r : Back) : Type 0 where
 pub record Seconds (n : ℕ) (t : Table) (w : Word) (starts deep : ℕ) (row : Row) : Type 0 where
   pub starting : (v c : ℕ) → v < n → (test_bit (mask_in row v) c && test_bit starts c)
       ≡ (nat_lt c n && (test_bit (mask_at t c v) (slice_index w.symbols 1) && test_bit starts c))
-  pub all : deep + 1 < w.len → (v c : ℕ) → v < n → test_bit (mask_in row v) c ≡ (nat_lt c n && test_bit (mask_at t c v) (slice_index w.symbols 1))
+  pub all : deep + 1 < w.len → (v c : ℕ) → v < n
+      → test_bit (mask_in row v) c ≡ (nat_lt c n && test_bit (mask_at t c v) (slice_index w.symbols 1))
 
 -- c may stand before u: it is not visited, and the symbol at place `at` leads from it to u
 abbrev pub may_stand : Table → Word → ℕ → ℕ → ℕ → ℕ → Bool

@@ -1,0 +1,2 @@
+-- What functions promise each other; no contract of a call rests on these definitions.
+pub mod Filling

@@ -1,0 +1,47 @@
+use lib.Dec.{eqb}
+use Rattle.lists.specs.Lists.{pick}
+use lib.Seq.{length-take-le}
+use lib.ListN.{drop_of_length-le, length, get_or}
+use Rattle.fields.proofs.PutLaws.{put_length}
+use Rattle.rule_text.proofs.TextLaws.{symbols_text, word_step, text_start, text_next, text_end, joined_nil, piece_length}
+use mathlib.Core.Path.{◌≡◌, refl, ap, ◌∙◌}
+use mathlib.Core.List.{List, [], ◌++◌}
+use Prim.Native.Nat.{ℕ, ◌+◌, ◌≤◌}
+use native.Mathlib.Omega.{arith}
+use Rattle.search.specs.Word.{symbols_in}
+use Rattle.rule_text.specs.Text.{symbol_text, dot, word_text}
+use borrow.Author.Rules.{rules}
+use Rattle.rule_text.proofs.text.put_word_text.Goals as goal
+
+pub loop-i-init : goal.loop-i-init
+loop-i-init c = record { inside = omega arith; kept = refl; room = omega arith; text = text_start }
+
+pub loop-i-preserved : goal.loop-i-preserved
+loop-i-preserved c =
+    let l = c.loop-i in
+    let a = c.args in
+    let w = a.w in
+    let r = c.put_symbol_text-end in
+    let hs : length w.symbols ≡ 31 = search rules in
+    let x : ℕ = get_or w.symbols l.i 0 in
+    let piece : List ℕ = symbol_text x ++ pick (eqb (l.i + 1) w.len) [] dot in
+    let p : length piece ≤ 3 = piece_length x (eqb (l.i + 1) w.len) in
+    let k : length r.new.out ≡ length l.out = ap length r.ensures.bytes ∙ put_length l.out l.end piece (omega arith) in
+    let step = word_step w.len w.symbols l.i (omega arith) (omega arith) in
+    record {
+      inside = omega arith;
+      kept = k ∙ l.invariant.kept;
+      room = omega (arith, r.ensures.place);
+      text = text_next l.invariant.text _ piece (omega arith) step r.ensures.bytes r.ensures.place;
+    }
+
+pub returns : goal.returns
+unfolding word_text
+returns c =
+    let l = c.loop-i in
+    let w = c.args.w in
+    let hs : length w.symbols ≡ 31 = search rules in
+    let n : length (symbols_in w) ≡ w.len = length-take-le w.len w.symbols (omega arith) in
+    let none_left = drop_of_length-le (symbols_in w) {i = l.i} (omega arith) in
+    let written = text_end l.invariant.text (ap symbols_text none_left ∙ joined_nil symbol_text dot []) in
+    record { bytes = written.0; place = written.1 }

@@ -1,0 +1,23 @@
+use Rattle.std.proofs.Common.{arith}
+use mathlib.Core.Logic.{by_cases}
+use native.Mathlib.Decide.{ℕ_discrete}
+use Rattle.masks.specs.promises.Table.{mask_in}
+use Rattle.masks.proofs.BitLaws.{test_with_same}
+use Rattle.search.proofs.pairs.unmoved.Goals as goal
+
+pub loop-u-init : goal.loop-u-init
+loop-u-init c = (omega arith, λ x h. absurd (omega arith))
+
+pub loop-u-preserved : goal.loop-u-preserved
+loop-u-preserved c =
+    let l = c.before.before.loop-u in
+    let e = c.add-row.ensures in (
+      omega (arith, c.before.loop-u-test.true),
+      λ x h.
+          by_cases (ℕ_discrete x l.u)
+          (λ q. rw (q, e.same) (test_with_same (mask_in l.row l.u) l.u))
+          (λ q. rw (e.other x q) (l.invariant.1 x (omega (arith, q)))),
+    )
+
+pub returns : goal.returns
+returns c x h = c.before.loop-u.invariant.1 x (omega (arith, c.loop-u-test.false))
