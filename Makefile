@@ -1,7 +1,7 @@
 # Hempmallet for a C programmer. Calls rt, the C compiler and the usual tools, and nothing else.
 #
-#     make              permitconv, the archive and the host to start from, all below target/
-#     make check        the gate: everything proved from nothing, then all tests
+#     make              permitconv, the archive and the host to start from
+#     make check        the gate: everything proved, then all tests
 #     make install      program, header, archive, pkg-config file and manual page below $(DESTDIR)$(PREFIX)
 #     make uninstall    takes these away again
 #     make clean        takes away all that was made here
@@ -19,10 +19,10 @@ MANDIR = $(PREFIX)/share/man
 CFLAGS = -O2 -Wall -Wextra
 INSTALL = install
 
-program = target/bin/permitconv
-archive = target/staticlib/libhempmallet.a
+program = crates/permitconv/out/permitconv
+archive = crates/hempmallet/out/libhempmallet.a
 host = target/host
-sources := crates.txt $(shell find crates)
+sources := crates.txt $(shell find crates -mindepth 2 -path 'crates/*/out' -prune -o -print)
 
 .PHONY: all check install uninstall clean
 .NOTPARALLEL: # rt proves crates side by side itself
@@ -30,16 +30,18 @@ sources := crates.txt $(shell find crates)
 
 all: $(program) $(archive) $(host)
 
-# `rt check` proves the program and every crate below it, links it and tries it. It leaves a program as it is that did not change.
+# `rt run` proves the program and every crate below it, links it and runs it. It leaves a program as it is that did not change.
 $(program): $(sources)
-	rt check permitconv
+	cd crates/permitconv && rt run -- --version
 	touch $@
 
-# `rt staticlib` proves the same way before it writes the archive.
+# `rt lib` proves the same way before it writes the archive.
 $(archive): $(sources)
-	rt staticlib hempmallet
+	cd crates/hempmallet && rt lib
+	touch $@
 
 $(host): host/host.c include/hempmallet.h $(archive)
+	mkdir -p target
 	$(CC) -std=c99 $(CPPFLAGS) $(CFLAGS) -Iinclude host/host.c $(archive) $(LDFLAGS) -o $@
 
 check:
@@ -60,4 +62,4 @@ uninstall:
 	rm -f '$(DESTDIR)$(LIBDIR)/pkgconfig/hempmallet.pc' '$(DESTDIR)$(MANDIR)/man1/permitconv.1'
 
 clean:
-	rm -rf target tests/__pycache__
+	rm -rf target crates/*/out tests/__pycache__

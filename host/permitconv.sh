@@ -1,6 +1,6 @@
 #!/bin/sh
 # Runs permitconv with an exit status: 1 where it says on standard error that standard input cannot be read or standard output cannot be
-# written, and otherwise its own. The program itself can end with 0 only (docs/DECISIONS.md).
+# written, and otherwise its own. The program itself ends with 0 there too (docs/DECISIONS.md).
 #
 #     host/permitconv.sh PROGRAM < FILE
 set -u

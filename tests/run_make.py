@@ -19,7 +19,7 @@ import stored
 
 ROOT = os.path.join(os.path.dirname(os.path.abspath(__file__)), os.pardir)
 SECONDS = 120
-PROGRAM, ARCHIVE, HOST = "target/bin/permitconv", "target/staticlib/libhempmallet.a", "target/host"
+PROGRAM, ARCHIVE, HOST = "crates/permitconv/out/permitconv", "crates/hempmallet/out/libhempmallet.a", "target/host"
 PREFIX = "/usr/x"
 PC = "lib/pkgconfig/hempmallet.pc"
 
@@ -204,7 +204,7 @@ def hold_all(tally, stage):
     os.remove(other)
     hold(tally, "make install with a library folder of its own", 0, make("install", *places, "LIBDIR=/lib/y")[0])
     hold(tally, "its pkg-config file", pc_text(PREFIX, "/lib/y"), content(stage + "/lib/y/pkgconfig/hempmallet.pc").decode())
-    hold(tally, "make clean", (0, "rm -rf target tests/__pycache__\n", ""), make("-n", "clean"))
+    hold(tally, "make clean", (0, "rm -rf target crates/*/out tests/__pycache__\n", ""), make("-n", "clean"))
     hold(tally, "make check", (0, "bash .ci/run\n", ""), make("-n", "check"))
 
 
