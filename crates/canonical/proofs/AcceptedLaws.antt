@@ -1,4 +1,5 @@
 -- The canonical file of a matter in limits is accepted, in either edition: it is well formed, statement by statement. Assumes nothing.
+use Rattle.std.specs.Prelude.{Ok}
 use mathlib.Core.Path.{◌≡◌, sym, ap, ◌∙◌}
 use mathlib.Core.List.{Memᴰ}
 use Prim.Native.Nat.{ℕ, suc, ◌≤◌, ◌<◌}
@@ -9,7 +10,6 @@ use Rattle.lists.proofs.OrderLaws.{up_distinct}
 use Rattle.rebac.specs.Matter.{Matter}
 use Rattle.house_layout.specs.Layout.{parties_of, record_of}
 use Rattle.house_layout.specs.declared.record.Record.{Record}
-use Rattle.house_layout.specs.declared.reply.Check.TheVariants.{Accepted}
 use Rattle.house_layout.proofs.LayoutLaws.{owner_named}
 use Rattle.house_layout.proofs.RecordLaws.{kind_cases}
 use Rattle.house_file.specs.Check.{check_of}
@@ -100,5 +100,5 @@ module _ (e : ℕ) (known : IsEdition e) (M : Matter) (i : InLimits M) where
     records = canonical_right;
   }
 
-  pub canonical_accepted : check_of (canonical_of e M) ≡ Accepted
+  pub canonical_accepted : check_of (canonical_of e M) ≡ Ok tt
   canonical_accepted = (accepted_iff_well_formed (canonical_of e M)).1 canonical_well_formed

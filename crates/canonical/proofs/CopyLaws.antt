@@ -1,5 +1,6 @@
 -- The copy of an accepted file, and the call that writes it: its matter gives back what was written, so equal copies mean equal matter and
 -- a copy's copy is the copy. Assumes nothing.
+use Rattle.std.specs.Prelude.{Ok, Err, Result}
 use mathlib.Core.Path.{◌≡◌, sym, ap, ◌∙◌}
 use mathlib.Core.Logic.{◌↔◌, ◌⊎◌, inl, inr, by_cases}
 use mathlib.Core.Bool.{true}
@@ -8,6 +9,7 @@ use Prim.Native.Nat.{ℕ, ◌≤◌, ◌<◌}
 use native.Mathlib.Omega.{arith}
 use native.Mathlib.Decide.{dec_lt}
 use lib.Dec.{leb}
+use Rattle.std.specs.Prelude.{Result, Ok, Err}
 use lib.ListN.{length}
 use Rattle.lists.proofs.Cases.{by_test, clash}
 use Rattle.lists.proofs.Distinct.{distinct_equal}
@@ -15,7 +17,6 @@ use Rattle.rebac.specs.Matter.{Matter}
 use Rattle.house_layout.specs.Layout.{parties_of, labels_of, records_of, file_size}
 use Rattle.house_layout.specs.declared.reply.Refusal.{Refusal}
 use Rattle.house_layout.specs.declared.reply.Refusal.TheVariants.{Output}
-use Rattle.house_layout.specs.declared.reply.Check.TheVariants as check
 use Rattle.house_layout.specs.Fields.{legal_kind}
 use Rattle.house_layout.proofs.RecordLaws.{by_check}
 use Rattle.house_layout.proofs.RefusalNumbers.{refusal_said}
@@ -28,8 +29,6 @@ use Rattle.graph.specs.FileMatter.{matter_of}
 use Rattle.canonical.specs.Canonical.{count_of, canonical_of, written_edition}
 use Rattle.canonical.specs.Calls.{refuses, writes, said_file, write_in, copy_for, write_call}
 use Rattle.canonical.specs.Shape.{InLimits, SameMatter, FileFor, CopyOf}
-use Rattle.canonical.specs.declared.reply.FileReply.{FileReply}
-use Rattle.canonical.specs.declared.reply.FileReply.TheVariants.{Refused, Wrote}
 use Rattle.canonical.proofs.LayoutLaws.{canonical_size, canonical_edition, canonical_labels, canonical_records}
 use Rattle.canonical.proofs.AcceptedLaws.{canonical_right, canonical_accepted}
 use Rattle.canonical.proofs.MatterLaws.{canonical_recorded, canonical_matter}
@@ -51,7 +50,7 @@ canonical_file e known M i = record {
 pub written_known : IsEdition written_edition
 written_known = (omega arith, omega arith)
 
-module _ (f : List ℕ) (a : check_of f ≡ check.Accepted) where
+module _ (f : List ℕ) (a : check_of f ≡ Ok tt) where
   -- the copy records what the file does
   copy_recorded : (u v k : ℕ) → legal_kind (labels_of f) k ≡ true
       → recorded (canonical_of written_edition (matter_of f)) u v k ≡ recorded f u v k
@@ -106,7 +105,7 @@ module _ (f g : List ℕ) where
     permit = λ u v. s.permits u v j;
   }
 
-  module _ (a : check_of f ≡ check.Accepted) (b : check_of g ≡ check.Accepted) where
+  module _ (a : check_of f ≡ Ok tt) (b : check_of g ≡ Ok tt) where
     -- R follows from the rest
     pub records_follow : matter_of f ≡ matter_of g → records_of f ≡ records_of g
     records_follow e = accepted_count f a ∙ ap count_of e ∙ sym (accepted_count g b)
@@ -143,11 +142,11 @@ apart : {x : Refusal} {c : List ℕ} → refuses x ≡ writes c → ⊥
 apart e = let z : ◌≡◌ {A = ℕ} 0 1 = cc in omega arith
 
 -- the call, by the file's check and the output's size
-pub write_refused : (f : List ℕ) (x : Refusal) (size : ℕ) → check_of f ≡ check.Refused x → write_call f size ≡ refuses x
+pub write_refused : (f : List ℕ) (x : Refusal) (size : ℕ) → check_of f ≡ Err x → write_call f size ≡ refuses x
 unfolding write_call
 write_refused f x size e = rw e
 
-module _ (f : List ℕ) (a : check_of f ≡ check.Accepted) where
+module _ (f : List ℕ) (a : check_of f ≡ Ok tt) where
   write_accepted : (size : ℕ) → write_call f size ≡ write_in (copy_for f) size
   unfolding write_call copy_for
   write_accepted size = rw a
@@ -170,7 +169,7 @@ module _ (f : List ℕ) (a : check_of f ≡ check.Accepted) where
   write_copies size c e = rw (written_is size c e) at (copied f a)
 
 -- "Writing the written file again changes nothing.": the same bytes, and 14 for the same outputs
-pub write_again : (f : List ℕ) → check_of f ≡ check.Accepted → (size : ℕ) (c : List ℕ) → write_call f size ≡ writes c → (j : ℕ)
+pub write_again : (f : List ℕ) → check_of f ≡ Ok tt → (size : ℕ) (c : List ℕ) → write_call f size ≡ writes c → (j : ℕ)
     → (length c ≤ j → write_call c j ≡ writes c) × (j < length c → write_call c j ≡ refuses Output)
 unfolding copy_for
 write_again f a size c e j =
@@ -185,10 +184,10 @@ unfolding write_call write_in copy_for
 write_refusals f size x e =
     by_check (check_of f)
     (λ q. by_test (leb (length (copy_for f)) size) (λ t. absurd (apart (sym (rw (q, t) at e)))) (λ t. inr (refused (sym (rw (q, t) at e)))))
-    (λ y q. inl (file_refusals f x (q ∙ ap check.Refused (refused (rw q at e)))))
+    (λ y q. inl (file_refusals f x (q ∙ ap Err (refused (rw q at e)))))
 
 -- the same over the calls: what two calls wrote is equal exactly where the files say the same
-pub written_equal : (f g : List ℕ) → check_of f ≡ check.Accepted → check_of g ≡ check.Accepted → (j k : ℕ)
+pub written_equal : (f g : List ℕ) → check_of f ≡ Ok tt → check_of g ≡ Ok tt → (j k : ℕ)
     → file_size written_edition (parties_of f) (records_of f) ≤ j → file_size written_edition (parties_of g) (records_of g) ≤ k
     → (write_call f j ≡ write_call g k) ↔ SameMatter f g
 written_equal f g a b j k h l = (
@@ -196,8 +195,8 @@ written_equal f g a b j k h l = (
   λ s. write_fits f a j h ∙ ap writes ((copies_equal f g a b).1 s) ∙ sym (write_fits g b k l),
 )
 
-pub file_said : (r s : FileReply) → said_file r ≡ said_file s → r ≡ s
-file_said (Refused x) (Refused y) e = ap Refused (refusal_said e)
-file_said (Refused x) (Wrote k) e = clash (cc e)
-file_said (Wrote j) (Refused y) e = clash (cc e)
-file_said (Wrote j) (Wrote k) e = ap Wrote (cc e)
+pub file_said : (r s : Result ℕ Refusal) → said_file r ≡ said_file s → r ≡ s
+file_said (Err x) (Err y) e = ap Err (refusal_said e)
+file_said (Err x) (Ok k) e = clash (cc e)
+file_said (Ok j) (Err y) e = clash (cc e)
+file_said (Ok j) (Ok k) e = ap Ok (cc e)

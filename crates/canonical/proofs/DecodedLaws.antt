@@ -1,21 +1,19 @@
 -- What an accepted file's decoded form holds stands for its matter: its kinds are those recorded. And how the writer's
 -- call opens, as `CallLaws` of graph says it of a call that loads. Assumes nothing.
+use Rattle.std.specs.Prelude.{Ok}
 use mathlib.Core.Path.{◌≡◌, sym, ap, ◌∙◌}
 use mathlib.Core.List.{List}
 use Prim.Native.Nat.{ℕ}
 use Rattle.house_layout.specs.declared.header.Header.{Header}
-use Rattle.house_layout.specs.declared.reply.Check.{Check}
-use Rattle.house_layout.specs.declared.reply.Check.TheVariants.{Accepted}
 use Rattle.house_file.specs.Check.{check_of}
-use Rattle.house_file.specs.promises.Decoded.{Decoded, ReadAs}
+use Rattle.house_file.specs.promises.Decoded.{Decoded}
 use Rattle.house_file.specs.declared.decode.House.{House}
-use Rattle.house_file.specs.declared.decode.Reading.{Reading}
 use Rattle.graph.specs.FileMatter.{matter_of}
 use Rattle.canonical.specs.promises.Masks.{Stands}
 use Rattle.canonical.proofs.FileLaws.{matter_says, accepted_matter}
 
-module _ (f : List ℕ) (e : check_of f ≡ Accepted) where
-  decoded_stands : (x : House) → Decoded f x → Stands (matter_of f) x.header x.kinds
+module _ (f : List ℕ) (e : check_of f ≡ Ok tt) where
+  pub decoded_stands : (x : House) → Decoded f x → Stands (matter_of f) x.header x.kinds
   unfolding matter_of
   decoded_stands x d = record {
     limits = accepted_matter f e;
@@ -25,11 +23,3 @@ module _ (f : List ℕ) (e : check_of f ≡ Accepted) where
     longest = ap (λ (h : Header). h.longest) d.header;
     kinds = λ u v b h. d.kinds u v b h ∙ sym (matter_says f u v b h);
   }
-
-module _ {f : List ℕ} {r : Reading} (l : ReadAs f r) where
-  -- either reply: the rewriting by which the call refuses, or writes the copy
-  pub read_check : {c : Check} → r.reply ≡ c → check_of f ≡ c
-  read_check e = sym l.reply ∙ e
-
-  pub read_stands : r.reply ≡ Accepted → Stands (matter_of f) r.house.header r.house.kinds
-  read_stands e = decoded_stands f (read_check e) r.house (l.house (read_check e))

@@ -1,5 +1,6 @@
 -- What an accepted file records: its matter is in limits, and its R is the number of (owner, target, kind) that it records, since
 -- the records of all chains are the numbers 1 to R, each once, and no two say the same. Assumes nothing.
+use Rattle.std.specs.Prelude.{Ok}
 use mathlib.Core.Path.{◌≡◌, refl, sym, ap, ◌∙◌}
 use mathlib.Core.Logic.{by_cases}
 use mathlib.Core.Bool.{true, true≢false}
@@ -20,7 +21,6 @@ use Rattle.lists.proofs.Pieces.{flat_lengths}
 use Rattle.house_layout.specs.Layout.{parties_of, labels_of, records_of, head_of, record_of, permit_kind}
 use Rattle.house_layout.specs.Fields.{legal_kind}
 use Rattle.house_layout.specs.declared.record.Record.{Record}
-use Rattle.house_layout.specs.declared.reply.Check.TheVariants.{Accepted}
 use Rattle.house_layout.proofs.RecordLaws.{kind_legal}
 use Rattle.house_file.specs.Check.{says, check_of}
 use Rattle.house_file.specs.Meaning.{chain_of, recorded, is_edge, is_permitted, RecordsRight}
@@ -144,7 +144,7 @@ matter_says f u v k l =
     (λ e. let q : k ≡ permit_kind = eqb-true k permit_kind e in rw (e, q))
     (λ e. by_test (ltb k (labels_of f)) (λ g. rw (e, g)) (λ g. absurd (true≢false (sym (rw (g, e) at l)))))
 
-module _ (f : List ℕ) (a : check_of f ≡ Accepted) where
+module _ (f : List ℕ) (a : check_of f ≡ Ok tt) where
   pub accepted_matter : InLimits (matter_of f)
   unfolding matter_of is_edge is_permitted
   accepted_matter =

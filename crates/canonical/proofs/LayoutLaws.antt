@@ -1,5 +1,6 @@
 -- Where the canonical file's numbers stand: its header by computing, heads as pieces of 2 bytes, records as pieces of
 -- the edition's size. Assumes nothing.
+use Rattle.std.specs.Prelude.{Some, None}
 use mathlib.Core.Path.{◌≡◌, refl, sym, ap, ◌∙◌}
 use mathlib.Core.List.Memᴰ
 use mathlib.Core.List.{List, [], ◌∷◌, ◌++◌, Memᴰ}
@@ -21,7 +22,6 @@ use Rattle.house_layout.specs.Layout.{head_of, record_size, owner_in, record_of}
 use Rattle.house_layout.proofs.LayoutLaws.{size_least}
 use Rattle.house_layout.specs.declared.header.Header.{Header}
 use Rattle.house_layout.specs.declared.record.Record.{Record}
-use Rattle.house_layout.specs.declared.record.OwnerByte.TheVariants.{Missing, Party}
 use Rattle.canonical.specs.Canonical.{Entry, entry, entries_of, entries_below, count_of, first_of, link, record_for, chain_records}
 use Rattle.canonical.specs.Canonical.{records_for, header_bytes, heads_by, record_bytes, header_for, canonical_of}
 
@@ -29,7 +29,7 @@ abbrev pub no_entry : Entry
 no_entry = entry 0 0 0
 
 abbrev pub no_record : Record
-no_record = record { target = 0; kind = 0; next = 0; owner = Missing }
+no_record = record { target = 0; kind = 0; next = 0; owner = None }
 
 -- a chain's records: as many as its entries, and each with its entry's target, kind and owner
 module _ (edition end : ℕ) where
@@ -209,7 +209,7 @@ module _ (edition : ℕ) (M : Matter) where
       → byte_at (canonical_of edition M) (at (r - 1) + j) ≡ get_or (record_bytes (record_for edition end q e)) j 0) where
     owner_same : owner_in edition (byte_at (canonical_of edition M) (at (r - 1) + 4)) ≡ owner_in edition e.owner
     unfolding owner_in record_size record_bytes u16_bytes
-    owner_same = by_test (eqb edition 1) (λ t. rw t) (λ t. rw t (ap Party (rw t at (h 4 (rw t (omega arith))))))
+    owner_same = by_test (eqb edition 1) (λ t. rw t) (λ t. rw t (ap Some (rw t at (h 4 (rw t (omega arith))))))
 
     record_same : record_of (canonical_of edition M) r ≡ record_for edition end q e
     unfolding record_of record_bytes u16_bytes at

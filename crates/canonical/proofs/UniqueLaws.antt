@@ -1,5 +1,6 @@
 -- The shape leaves no choice: an accepted file in shape has, chain by chain, the entries of its matter in order, so its heads, its records
 -- and then its bytes are the canonical file's. Assumes nothing.
+use Rattle.std.specs.Prelude.{Ok}
 use mathlib.Core.Path.{◌≡◌, sym, ap, ◌∙◌}
 use mathlib.Core.Logic.{by_cases}
 use mathlib.Core.Bool.{true}
@@ -20,7 +21,6 @@ use Rattle.rebac.proofs.PairsLaws.{pair_one_way}
 use Rattle.house_layout.specs.Layout.{edition_of, parties_of, labels_of, records_of, head_of, record_size, owner_in, place_of, record_of}
 use Rattle.house_layout.proofs.LayoutLaws.{size_most, piece_of, owner_apart}
 use Rattle.house_layout.specs.declared.record.Record.{Record}
-use Rattle.house_layout.specs.declared.reply.Check.TheVariants.{Accepted}
 use Rattle.house_layout.specs.Fields.{legal_kind}
 use Rattle.house_layout.proofs.RecordLaws.{kind_legal}
 use Rattle.house_file.specs.Check.{check_of}
@@ -62,7 +62,7 @@ next_named f (suc k) a x (suc i) g h =
     let y : a + suc k ≡ suc a + k = omega arith in
     rw (z, y) (next_named f k (suc a) (record_of f x).next i (omega arith) h.1.1.1)
 
-module _ (f : List ℕ) (a : check_of f ≡ Accepted) (s : InShape f) where
+module _ (f : List ℕ) (a : check_of f ≡ Ok tt) (s : InShape f) where
   M : Matter
   M = matter_of f
 
@@ -269,7 +269,7 @@ module _ (f : List ℕ) (a : check_of f ≡ Accepted) (s : InShape f) where
     whole = ext_get_or 0 f copy (w.size ∙ sym (canonical_length f a edition)) (λ i h. byte_equal i h)
 
 -- an accepted file in shape is the canonical file of its matter, in its edition
-pub shape_only : (f : List ℕ) → Bytes f → check_of f ≡ Accepted → InShape f → f ≡ canonical_of (edition_of f) (matter_of f)
+pub shape_only : (f : List ℕ) → Bytes f → check_of f ≡ Ok tt → InShape f → f ≡ canonical_of (edition_of f) (matter_of f)
 unfolding M copy edition
 shape_only f b a s =
     whole f a s b

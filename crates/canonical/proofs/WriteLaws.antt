@@ -1,5 +1,6 @@
 -- The file's bytes piece by piece: records of the edition that is written are five bytes each, so each piece begins where the one before it
 -- ends. Assumes nothing.
+use Rattle.std.specs.Prelude.{Option, Some, None}
 use mathlib.Core.Path.{◌≡◌, refl, sym, ap, ◌∙◌}
 use mathlib.Core.List.{List, [], ◌∷◌, ◌++◌, map, append_assoc}
 use Prim.Native.Nat.{ℕ, suc, ◌+◌, ◌*◌, ◌-◌, ◌≤◌}
@@ -17,8 +18,6 @@ use Rattle.rebac.specs.Matter.{Matter}
 use Rattle.house_layout.specs.Layout.{record_size, owner_in}
 use Rattle.house_layout.specs.declared.header.Header.{Header}
 use Rattle.house_layout.specs.declared.record.Record.{Record}
-use Rattle.house_layout.specs.declared.record.OwnerByte.{OwnerByte}
-use Rattle.house_layout.specs.declared.record.OwnerByte.TheVariants.{Missing, Party}
 use Rattle.canonical.specs.Canonical.{Entry, entry, entries_of, entries_below, first_of, link, chain_records, records_for}
 use Rattle.canonical.specs.Canonical.{header_bytes, heads_by, owner_bytes, record_bytes, header_for, canonical_of, written_edition}
 use Rattle.canonical.specs.promises.Masks.{chain_bytes, pair_bytes, numbers_in, FirstsOf}
@@ -42,19 +41,19 @@ front_put b out at x h e =
     ∙ put_put b at (x.target ∷ x.kind ∷ []) (u16_bytes x.next) (omega arith)
 
 -- and the owner's, where the record has one
-pub missing_put : (b out : List ℕ) (at : ℕ) (x : Record) → x.owner ≡ Missing → out ≡ put b at (front_bytes x)
+pub missing_put : (b out : List ℕ) (at : ℕ) (x : Record) → x.owner ≡ None → out ≡ put b at (front_bytes x)
     → out ≡ put b at (record_bytes x)
 unfolding record_bytes u16_bytes
 missing_put b out at x q e = rw q e
 
-pub owner_put : (b out : List ℕ) (at u : ℕ) (x : Record) → at + 5 ≤ length b → x.owner ≡ Party u → out ≡ put b at (front_bytes x)
+pub owner_put : (b out : List ℕ) (at u : ℕ) (x : Record) → at + 5 ≤ length b → x.owner ≡ Some u → out ≡ put b at (front_bytes x)
     → set out (at + 4) u ≡ put b at (record_bytes x)
 unfolding record_bytes u16_bytes
 owner_put b out at u x h q e = rw q (then_one b at (front_bytes x) out (at + 4) e refl u (omega arith))
 
-owner_most : (o : OwnerByte) → length (owner_bytes o) ≤ 1
-owner_most Missing = omega arith
-owner_most (Party u) = omega arith
+owner_most : (o : Option ℕ) → length (owner_bytes o) ≤ 1
+owner_most None = omega arith
+owner_most (Some u) = omega arith
 
 pub record_most : (x : Record) → length (record_bytes x) ≤ 5
 unfolding record_bytes u16_bytes
@@ -111,10 +110,10 @@ module _ (end : ℕ) where
 
   pair_more : (r u v : ℕ) (ks : List ℕ) (k : ℕ)
       → pair_bytes end r u v (ks ++ (k ∷ []))
-      ≡ pair_bytes end r u v ks ++ record_bytes (record { target = v; kind = k; next = link end (suc (r + length ks)); owner = Party u })
+      ≡ pair_bytes end r u v ks ++ record_bytes (record { target = v; kind = k; next = link end (suc (r + length ks)); owner = Some u })
   unfolding pair_bytes chain_bytes chain_records owner_in
   pair_more r u v ks k =
-      let x : Record = record { target = v; kind = k; next = link end (suc (r + length ks)); owner = Party u } in
+      let x : Record = record { target = v; kind = k; next = link end (suc (r + length ks)); owner = Some u } in
       ap (chain_bytes end r) (map_append (entry u v) ks (k ∷ []))
       ∙ chain_append r (map (entry u v) ks) (entry u v k ∷ [])
       ∙ rw length_map (ap (λ (l : List ℕ). chain_bytes end r (map (entry u v) ks) ++ l) (flat_one record_bytes x))
@@ -122,11 +121,11 @@ module _ (end : ℕ) where
   -- one record after the pair's others
   pub pair_put : (b out : List ℕ) (base r u v next : ℕ) (ks more : List ℕ) (k to : ℕ) → 1 ≤ r → base + 5 * (r - 1) ≤ length b
       → next ≡ r + length ks → more ≡ ks ++ (k ∷ []) → to ≡ link end (next + 1) → out ≡ put b (base + 5 * (r - 1)) (pair_bytes end r u v ks)
-      → put out (base + 5 * (next - 1)) (record_bytes (record { target = v; kind = k; next = to; owner = Party u }))
+      → put out (base + 5 * (next - 1)) (record_bytes (record { target = v; kind = k; next = to; owner = Some u }))
       ≡ put b (base + 5 * (r - 1)) (pair_bytes end r u v more)
   pair_put b out base r u v next ks more k to one h n m t o =
       let z : next + 1 ≡ suc (r + length ks) = omega arith in
-      let x : Record = record { target = v; kind = k; next = link end (suc (r + length ks)); owner = Party u } in
+      let x : Record = record { target = v; kind = k; next = link end (suc (r + length ks)); owner = Some u } in
       let e : base + 5 * (next - 1) ≡ base + 5 * (r - 1) + length (pair_bytes end r u v ks) = omega (arith, pair_length r u v ks) in
       rw (m, pair_more, t, z) (then_put b (base + 5 * (r - 1)) (pair_bytes end r u v ks) out (base + 5 * (next - 1)) o e (record_bytes x) h)
 

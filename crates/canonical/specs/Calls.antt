@@ -1,5 +1,6 @@
 -- Calls that write a file: what they answer and write. The copy (02, Tickets 1 and 2): an accepted file's matter,
 -- written again in edition 2.
+use Rattle.std.specs.Prelude.{Ok, Err, Result}
 use Rattle.std.specs.Prelude.{ℕ, List, [], ◌∷◌, ◌++◌, length, drop, leb}
 use Rattle.rebac.specs.Matter.{Matter}
 use Rattle.house_layout.specs.Reply.{Said, refusal, values, number_of}
@@ -8,8 +9,6 @@ use Rattle.house_layout.specs.declared.reply.Refusal.TheVariants.{Output}
 use Rattle.graph.specs.FileMatter.{matter_of}
 use Rattle.graph.specs.Refusals.{unless, over_matter}
 use Rattle.canonical.specs.Canonical.{canonical_of, written_edition}
-use Rattle.canonical.specs.declared.reply.FileReply.{FileReply}
-use Rattle.canonical.specs.declared.reply.FileReply.TheVariants.{Refused, Wrote}
 
 -- a refusal, or the file that is written
 pub data FileAnswer : Type 0 where
@@ -17,14 +16,14 @@ pub data FileAnswer : Type 0 where
   writes : List ℕ → FileAnswer
 
 -- "It returns the length, as do later calls that write a file"
-abbrev pub file_reply : FileAnswer → FileReply
-file_reply (refuses x) = Refused x
-file_reply (writes l) = Wrote (length l)
+abbrev pub file_reply : FileAnswer → Result ℕ Refusal
+file_reply (refuses x) = Err x
+file_reply (writes l) = Ok (length l)
 
 -- the reply in 01's number and values
-abbrev pub said_file : FileReply → Said
-said_file (Refused x) = refusal (number_of x)
-said_file (Wrote k) = values (k ∷ [])
+abbrev pub said_file : Result ℕ Refusal → Said
+said_file (Err x) = refusal (number_of x)
+said_file (Ok k) = values (k ∷ [])
 
 -- the output then: the file stands at its start, every other byte is kept
 abbrev pub file_output : FileAnswer → List ℕ → List ℕ

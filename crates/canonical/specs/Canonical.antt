@@ -1,5 +1,6 @@
 -- The canonical file of a matter, in an edition (02, Tickets 1 and 2): "the same matter with records numbered along
 -- the chains, party 0 first, each chain by target and then by kind byte".
+use Rattle.std.specs.Prelude.{Option, Some, None}
 use Rattle.std.specs.Prelude.{ℕ, suc, Bool, List, [], ◌∷◌, ◌++◌, map, length, eqb, ltb}
 use Rattle.lists.specs.Lists.{pick, filter_by, flat_map, range}
 use Rattle.fields.specs.Numbers.{u16_bytes}
@@ -7,8 +8,6 @@ use Rattle.rebac.specs.Matter.{Matter}
 use Rattle.house_layout.specs.Layout.{owner_in, permit_kind}
 use Rattle.house_layout.specs.declared.header.Header.{Header}
 use Rattle.house_layout.specs.declared.record.Record.{Record}
-use Rattle.house_layout.specs.declared.record.OwnerByte.{OwnerByte}
-use Rattle.house_layout.specs.declared.record.OwnerByte.TheVariants.{Missing, Party}
 
 -- what a record says: its owner's relation of this label to the target, or a permit
 pub record Entry : Type 0 where
@@ -71,9 +70,9 @@ header_bytes h = h.edition ∷ h.parties ∷ h.labels ∷ h.language ∷ h.longe
 unfoldable pub heads_by : (ℕ → ℕ) → ℕ → List ℕ
 heads_by first n = flat_map (λ u. u16_bytes (link (first (suc u)) (first u))) (range n)
 
-abbrev pub owner_bytes : OwnerByte → List ℕ
-owner_bytes Missing = []
-owner_bytes (Party u) = u ∷ []
+abbrev pub owner_bytes : Option ℕ → List ℕ
+owner_bytes None = []
+owner_bytes (Some u) = u ∷ []
 
 unfoldable pub record_bytes : Record → List ℕ
 record_bytes r = r.target ∷ r.kind ∷ (u16_bytes r.next ++ owner_bytes r.owner)

@@ -1,4 +1,5 @@
 -- What the writer is held to, in plain terms: matters in 01's limits, the order of a file's records, and files that say the same.
+use Rattle.std.specs.Prelude.{Ok}
 use Rattle.std.specs.Prelude.{ℕ, suc, ◌<◌, ◌≡◌, Bool, true, ◌&&◌, ◌||◌, List, map, length, eqb, ltb}
 use Rattle.lists.specs.Lists.{flat_map, range, up_from}
 use Rattle.lists.specs.Order.{Ascending}
@@ -6,7 +7,6 @@ use Rattle.rebac.specs.Matter.{Matter, pair, IsPair}
 use Rattle.house_layout.specs.Layout.{edition_of, parties_of, labels_of, language_of, longest_of, records_of, record_of, file_size}
 use Rattle.house_file.specs.Meaning.{chain_of, is_edge, is_permitted}
 use Rattle.house_file.specs.Check.{check_of}
-use Rattle.house_layout.specs.declared.reply.Check.TheVariants.{Accepted}
 use Rattle.graph.specs.FileMatter.{Limits, matter_of}
 use Rattle.canonical.specs.Canonical.{Entry, entry, written_edition}
 
@@ -43,7 +43,7 @@ pub record SameMatter (f g : List ℕ) : Type 0 where
 
 -- c is accepted, of this edition, has this matter and is in shape
 pub record FileFor (edition : ℕ) (M : Matter) (c : List ℕ) : Type 0 where
-  pub accepted : check_of c ≡ Accepted
+  pub accepted : check_of c ≡ Ok tt
   pub header : edition_of c ≡ edition
   pub matter : matter_of c ≡ M
   pub shape : InShape c

@@ -2,24 +2,15 @@
 ghost use Rattle.std.specs.Prelude.{◌≡◌, length};
 ghost use Rattle.canonical.specs.Calls.{file_reply, file_output, write_call};
 
-use crate::reply::FileReply;
 use crate::write::write_matter;
-use house_layout::Check;
+use house_layout::Refusal;
 
-// Writes an accepted file's matter again, in the canonical order and in edition 2.
-pub fn write_call(file: &[u8], out: &mut [u8]) -> FileReply
+// Writes an accepted file's matter again, in the canonical order and in edition 2, and returns the length of the file written.
+// `said_file` gives 01's number and values of each reply; equal ones mean equal replies (`file_said`).
+pub fn write_call(file: &[u8], out: &mut [u8]) -> Result<usize, Refusal>
     ensures { (result ≡ file_reply (write_call file.now (length out.old)))
         × (out.new ≡ file_output (write_call file.now (length out.old)) out.old) }
 {
-    let r = house_file::read(file);
-    let reply = r.reply;
-    match reply {
-        Check::Refused(e) => FileReply::Refused(e),
-        Check::Accepted => {
-            let house = r.house;
-            let h = house.header;
-            let kinds = house.kinds;
-            write_matter(h, kinds, out)
-        }
-    }
+    let house = house_file::read(file)?;
+    write_matter(house.header, house.kinds, out)
 }

@@ -7,12 +7,13 @@ ghost use Rattle.canonical.specs.Canonical.{kind_bytes, entries_of};
 ghost use Rattle.canonical.specs.promises.Masks.{matter_in, kinds_in, FirstsOf, PartyLimits};
 
 use house_layout::{Header, PERMIT_KIND, bit_of};
+use limits::MOST_PARTIES;
 use masks::Table;
 
 // The number of each party's first record, and after the last party's the number past the last record.
 #[derive(Clone, Copy)]
 pub struct Firsts {
-    pub numbers: [usize; 33],
+    pub numbers: [usize; MOST_PARTIES + 1],
 }
 
 // The kind byte at a place of the kinds in order: the labels, then a permit's.
@@ -27,6 +28,7 @@ pub fn kind_at(labels: usize, place: usize) -> usize
 }
 
 // Whether a mask has the kind at a place.
+// Kept: a struct of labels and mask would be built twice for every pair, only to be taken apart here.
 pub fn says_at(labels: usize, mask: u32, place: usize) -> bool
     requires { (labels ≤ most_labels) × (place ≤ labels) }
     ensures { result ≡ test_bit mask (bit_of (get_or (kind_bytes labels) place 0)) }
@@ -40,44 +42,38 @@ fn count_kinds(labels: usize, mask: u32) -> usize
     ensures { result ≡ length (kinds_in labels mask) }
 {
     let mut count = 0;
-    let mut place = 0;
-    while place <= labels {
+    for place in 0..labels + 1 {
         if says_at(labels, mask, place) {
             count += 1;
         }
-        place += 1;
     }
     count
 }
 
 // How many records party u has.
-fn count_party(h: Header, kinds: Table, u: usize) -> usize
+fn count_party(h: Header, kinds: &Table, u: usize) -> usize
     requires { PartyLimits h u }
-    ensures { result ≡ length (entries_of (matter_in h kinds) u) }
+    ensures { result ≡ length (entries_of (matter_in h kinds.now) u) }
 {
-    let row = kinds.rows[u];
+    let row = &kinds.rows[u];
     let mut count = 0;
-    let mut v = 0;
-    while v < h.parties {
+    for v in 0..h.parties {
         count += count_kinds(h.labels, row.masks[v]);
-        v += 1;
     }
     count
 }
 
 // The numbers of the first records.
-pub fn first_numbers(h: Header, kinds: Table) -> Firsts
+pub fn first_numbers(h: Header, kinds: &Table) -> Firsts
     requires { (h.parties ≤ most_parties) × (h.labels ≤ most_labels) }
-    ensures { FirstsOf (matter_in h kinds) result }
+    ensures { FirstsOf (matter_in h kinds.now) result }
 {
-    let mut numbers = [0usize; 33];
+    let mut numbers = [0usize; MOST_PARTIES + 1];
     let mut number = 1;
-    let mut u = 0;
     numbers[0] = number;
-    while u < h.parties {
+    for u in 0..h.parties {
         number += count_party(h, kinds, u);
-        u += 1;
-        numbers[u] = number;
+        numbers[u + 1] = number;
     }
     Firsts { numbers }
 }

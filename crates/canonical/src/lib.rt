@@ -3,9 +3,7 @@
 
 mod call;
 mod count;
-mod reply;
 mod write;
 
 pub use call::write_call;
-pub use reply::FileReply;
 pub use write::write_matter;

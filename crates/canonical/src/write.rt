@@ -11,9 +11,8 @@ ghost use Rattle.canonical.specs.promises.Masks.{RecordFits, PairFits, PartyFits
 ghost use Rattle.canonical.specs.Calls.{file_reply, file_output, write_in};
 
 use crate::count::{Firsts, first_numbers, kind_at, says_at};
-use crate::reply::FileReply;
 use fields::put_u16;
-use house_layout::{HEAD_SIZE, HEADER_SIZE, Header, OWNED_RECORD, OwnerByte, Record, Refusal};
+use house_layout::{HEAD_SIZE, HEADER_SIZE, Header, OWNED_RECORD, Record, Refusal};
 use masks::Table;
 
 // The edition that is written.
@@ -36,76 +35,79 @@ fn put_record(out: &mut [u8], at: usize, x: Record)
     out[at] = x.target as u8;
     out[at + 1] = x.kind as u8;
     put_u16(out, at + 2, x.next);
-    let owner = x.owner;
-    match owner {
-        OwnerByte::Missing => {}
-        OwnerByte::Party(u) => {
-            out[at + 4] = u as u8;
-        }
+    if let Some(u) = x.owner {
+        out[at + 4] = u as u8;
     }
 }
 
-// The records of one pair, from record `number` on, and the number after them. `base` is the place of record 1.
+// One party's chain: its owner, the place of record 1, and the number past the chain's last record.
+#[derive(Clone, Copy)]
+struct Chain {
+    owner: usize,
+    base: usize,
+    end: usize,
+}
+
+// The records of one pair, from record `number` on, and the number after them.
+#[tactic(auto, using(crate::proofs::CountLaws::kinds_room))]
 fn put_pair(
     out: &mut [u8],
-    base: usize,
-    owner: usize,
+    chain: Chain,
     target: usize,
     labels: usize,
     mask: u32,
     number: usize,
-    end: usize,
 ) -> usize
-    requires { PairFits owner target labels mask base number end (length out.old) }
+    requires { PairFits chain target labels mask number (length out.old) }
     ensures { (result ≡ number + length (kinds_in labels mask))
         × (out.new
-        ≡ put out.old (base + owned_record * (number - 1)) (pair_bytes end number owner target (kinds_in labels mask))) }
+        ≡ put out.old (chain.base + owned_record * (number - 1))
+        (pair_bytes chain.end number chain.owner target (kinds_in labels mask))) }
 {
     let mut next = number;
-    let mut place = 0;
-    while place <= labels {
+    for place in 0..labels + 1 {
         if says_at(labels, mask, place) {
             let x = Record {
                 target,
                 kind: kind_at(labels, place),
-                next: link_to(end, next + 1),
-                owner: OwnerByte::Party(owner),
+                next: link_to(chain.end, next + 1),
+                owner: Some(chain.owner),
             };
-            put_record(out, base + OWNED_RECORD * (next - 1), x);
+            put_record(out, chain.base + OWNED_RECORD * (next - 1), x);
             next += 1;
         }
-        place += 1;
     }
     next
 }
 
 // Party u's records, from record `number` on.
-fn put_party(out: &mut [u8], h: Header, kinds: Table, u: usize, number: usize, end: usize)
-    requires { PartyFits h kinds u number end (length out.old) }
+fn put_party(out: &mut [u8], h: Header, kinds: &Table, u: usize, number: usize, end: usize)
+    requires { PartyFits h kinds.now u number end (length out.old) }
     ensures { out.new
         ≡ put out.old (head_place h.parties + owned_record * (number - 1))
-        (chain_bytes end number (entries_of (matter_in h kinds) u)) }
+        (chain_bytes end number (entries_of (matter_in h kinds.now) u)) }
 {
     let base = HEADER_SIZE + HEAD_SIZE * h.parties;
-    let row = kinds.rows[u];
+    let chain = Chain {
+        owner: u,
+        base,
+        end,
+    };
+    let row = &kinds.rows[u];
     let mut next = number;
-    let mut v = 0;
-    while v < h.parties {
-        next = put_pair(out, base, u, v, h.labels, row.masks[v], next, end);
-        v += 1;
+    for v in 0..h.parties {
+        next = put_pair(out, chain, v, h.labels, row.masks[v], next);
     }
 }
 
 // The records of all parties.
-fn put_records(out: &mut [u8], h: Header, kinds: Table, f: Firsts)
-    requires { FileFits h kinds f (length out.old) }
+fn put_records(out: &mut [u8], h: Header, kinds: &Table, f: Firsts)
+    requires { FileFits h kinds.now f (length out.old) }
     ensures { out.new ≡ put out.old (head_place h.parties)
-        (flat_map record_bytes (flat_map (records_for written_edition (matter_in h kinds)) (range h.parties))) }
+        (flat_map record_bytes (flat_map (records_for written_edition (matter_in h kinds.now)) (range h.parties))) }
 {
-    let mut u = 0;
-    while u < h.parties {
+    for u in 0..h.parties {
         put_party(out, h, kinds, u, f.numbers[u], f.numbers[u + 1]);
-        u += 1;
     }
 }
 
@@ -114,14 +116,12 @@ fn put_heads(out: &mut [u8], parties: usize, f: Firsts)
     requires { HeadsFit parties f (length out.old) }
     ensures { out.new ≡ put out.old header_size (heads_by (numbers_in f) parties) }
 {
-    let mut u = 0;
-    while u < parties {
+    for u in 0..parties {
         put_u16(
             out,
             HEADER_SIZE + HEAD_SIZE * u,
             link_to(f.numbers[u + 1], f.numbers[u]),
         );
-        u += 1;
     }
 }
 
@@ -139,9 +139,9 @@ fn put_header(out: &mut [u8], h: Header)
 }
 
 // The whole file.
-fn put_file(out: &mut [u8], h: Header, kinds: Table, f: Firsts)
-    requires { FileFits h kinds f (length out.old) }
-    ensures { out.new ≡ put out.old 0 (canonical_of written_edition (matter_in h kinds)) }
+fn put_file(out: &mut [u8], h: Header, kinds: &Table, f: Firsts)
+    requires { FileFits h kinds.now f (length out.old) }
+    ensures { out.new ≡ put out.old 0 (canonical_of written_edition (matter_in h kinds.now)) }
 {
     put_header(out, h);
     put_heads(out, h.parties, f);
@@ -149,18 +149,19 @@ fn put_file(out: &mut [u8], h: Header, kinds: Table, f: Firsts)
 }
 
 // Writes the canonical file, in edition 2, of the matter that the header's numbers and the masks of kinds stand for.
-// The header's edition and R do not matter.
-pub fn write_matter(h: Header, kinds: Table, out: &mut [u8]) -> FileReply
+// The header's edition and R do not matter. Returns the file's length.
+// Kept: callers have header and masks apart, so a struct of both would copy the 4 KB of masks once more.
+pub fn write_matter(h: Header, kinds: Table, out: &mut [u8]) -> Result<usize, Refusal>
     requires { (M : Matter) × Stands M h kinds }
     ensures { (M : Matter) → Stands M h kinds → (result ≡ file_reply (write_in (canonical_of written_edition M) (length out.old)))
         × (out.new ≡ file_output (write_in (canonical_of written_edition M) (length out.old)) out.old) }
 {
     let n = h.parties;
-    let f = first_numbers(h, kinds);
+    let f = first_numbers(h, &kinds);
     let records = f.numbers[n] - 1;
     let size = HEADER_SIZE + HEAD_SIZE * n + OWNED_RECORD * records;
     if out.len() < size {
-        return FileReply::Refused(Refusal::Output);
+        return Err(Refusal::Output);
     }
     let counted = Header {
         edition: WRITTEN_EDITION,
@@ -170,6 +171,6 @@ pub fn write_matter(h: Header, kinds: Table, out: &mut [u8]) -> FileReply
         longest: h.longest,
         records,
     };
-    put_file(out, counted, kinds, f);
-    FileReply::Wrote(size)
+    put_file(out, counted, &kinds, f);
+    Ok(size)
 }

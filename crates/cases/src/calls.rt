@@ -1,56 +1,58 @@
-// The calls that are given more than a file.
+// The calls of the script's frames, and those of them that are given a word and an output.
 ghost use Rattle.std.specs.Prelude.{◌+◌, ◌≤◌, length};
 
-use crate::frame::{Frame, wide};
-use crate::print::{decimal, hex_bytes, line, text};
-use crate::{LARGE, fill, listed, refused, tested, written};
+use crate::frame::{Call, Frame};
+use crate::print::hex_bytes;
+use crate::{fill, listed, refused, show_check, show_decode, tested, written};
+use house_layout::Refusal;
 use limits::WORD_CAPACITY;
-use paths::WordReply;
 use search::Word;
 use std::io;
 use std::io::{Read, Write};
 
-// Whether a call has more than a file: a word, with an output or without, an output, or a rule list.
-pub fn has_more(call: u8) -> bool {
-    call == b'p'
-        || call == b'n'
-        || call == b't'
-        || call == b'w'
-        || call == b'r'
-        || call == b'm'
-        || call == b'x'
-}
-
 // The word of a frame: its length, then 31 symbols.
 pub fn word_of(given: &[u8; 32]) -> Word {
     let mut symbols = [0u8; WORD_CAPACITY];
-    let mut i = 0;
-    while i < WORD_CAPACITY {
-        symbols[i] = given[i + 1];
-        i += 1;
-    }
+    symbols.copy_from_slice(&given[1..]);
     Word {
-        len: wide(given[0]),
+        len: usize::from(given[0]),
         symbols,
     }
 }
 
-fn show_reply<W: Write>(r: WordReply, out: &mut W) -> io::Result<()> {
+fn show_reply<W: Write>(r: Result<Option<usize>, Refusal>, out: &mut W) -> io::Result<()> {
     match r {
-        WordReply::Refused(e) => refused(e, out),
-        WordReply::Nothing => text(out, b" none\n"),
-        WordReply::Wrote(k) => {
-            text(out, b" ")?;
-            decimal(out, k as u64)?;
-            line(out)
-        }
+        Err(e) => refused(e, out),
+        Ok(None) => writeln!(out, " none"),
+        Ok(Some(k)) => writeln!(out, " {k}"),
     }
 }
 
 pub fn show_output<W: Write>(shown: &[u8], out: &mut W) -> io::Result<()> {
-    text(out, b"output ")?;
+    write!(out, "output ")?;
     hex_bytes(out, shown)?;
-    line(out)
+    writeln!(out)
+}
+
+// Runs the call of a frame, and reads what else the frame has; false where the script is too short. No call has an unknown letter.
+pub fn run<R: Read, W: Write>(
+    f: Frame,
+    file: &[u8],
+    input: &mut R,
+    out: &mut W,
+) -> io::Result<bool> {
+    match f.call {
+        None => {}
+        Some(Call::Check) => show_check(file, out)?,
+        Some(Call::Decode) => show_decode(file, out)?,
+        Some(Call::Path) | Some(Call::NextWord) => return run_word(f, file, input, out),
+        Some(Call::Test) => return tested::run_test(f, file, input, out),
+        Some(Call::Write) => return written::run_write(f, file, input, out),
+        Some(Call::Permit) | Some(Call::Compare) | Some(Call::Text) => {
+            return listed::run_list(f, file, input, out);
+        }
+    }
+    Ok(true)
 }
 
 // Lends the middle of a space of 16 + n + 16 bytes and shows all of it.
@@ -64,41 +66,17 @@ fn answer<W: Write>(
 ) -> io::Result<()>
     requires { (16 ≤ end) × (end ≤ length space.old) }
 {
-    let first = f.first as usize;
-    let second = f.second as usize;
-    if f.call == b'p' {
-        text(out, b"path")?;
-        show_reply(
-            paths::path_call(file, first, second, w, &mut space[16..end]),
-            out,
-        )
-    } else {
-        text(out, b"next-word")?;
-        show_reply(
-            paths::next_call(file, first, second, w, &mut space[16..end]),
-            out,
-        )
+    let lent = &mut space[16..end];
+    match f.call {
+        Some(Call::Path) => {
+            write!(out, "path")?;
+            show_reply(paths::path_call(file, f.first, f.second, w, lent), out)
+        }
+        _ => {
+            write!(out, "next-word")?;
+            show_reply(paths::next_call(file, f.first, f.second, w, lent), out)
+        }
     }
-}
-
-// Reads what else a frame has and runs its call; false where the script is too short.
-pub fn run<R: Read, W: Write>(
-    f: Frame,
-    file: &[u8],
-    input: &mut R,
-    out: &mut W,
-) -> io::Result<bool> {
-    if f.call == b'p' || f.call == b'n' {
-        return run_word(f, file, input, out);
-    }
-    if f.call == b't' {
-        return tested::run_test(f, file, input, out);
-    }
-    if f.call == b'w' {
-        return written::run_write(f, file, input, out);
-    }
-    let mut list = [0u8; LARGE];
-    listed::run_list(f, file, &mut list, input, out)
 }
 
 // Path and next-word.

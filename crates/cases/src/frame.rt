@@ -4,46 +4,73 @@ ghost use Rattle.std.specs.Prelude.{◌+◌, ◌<◌};
 use std::io;
 use std::io::Read;
 
+// What a frame asks for.
+#[derive(Clone, Copy, Debug, PartialEq, Eq)]
+pub enum Call {
+    Check,
+    Decode,
+    Path,
+    NextWord,
+    Test,
+    Permit,
+    Text,
+    Compare,
+    Write,
+}
+
+// No call has this letter.
+#[derive(Clone, Copy, Debug, PartialEq, Eq)]
+pub struct UnknownCall;
+
+impl TryFrom<u8> for Call {
+    type Error = UnknownCall;
+
+    fn try_from(letter: u8) -> Result<Call, UnknownCall> {
+        match letter {
+            b'c' => Ok(Call::Check),
+            b'd' => Ok(Call::Decode),
+            b'p' => Ok(Call::Path),
+            b'n' => Ok(Call::NextWord),
+            b't' => Ok(Call::Test),
+            b'r' => Ok(Call::Permit),
+            b'x' => Ok(Call::Text),
+            b'm' => Ok(Call::Compare),
+            b'w' => Ok(Call::Write),
+            _ => Err(UnknownCall),
+        }
+    }
+}
+
+// The call, where its letter is known, the two parties, and how many bytes of each kind follow.
 #[derive(Clone, Copy)]
 pub struct Frame {
-    pub whole: bool,
-    pub call: u8,
-    pub first: u8,
-    pub second: u8,
+    pub call: Option<Call>,
+    pub first: usize,
+    pub second: usize,
     pub file: usize,
     pub given: usize,
     pub output: usize,
-    pub scratch: usize,
-}
-
-pub fn wide(x: u8) -> usize
-    ensures { result < 256 }
-{
-    x as usize
 }
 
 // Four bytes, low byte first.
 fn u32_at(head: &[u8; 24], at: usize) -> usize
     requires { at + 3 < 24 }
 {
-    wide(head[at])
-        + wide(head[at + 1]) * 256
-        + wide(head[at + 2]) * 65536
-        + wide(head[at + 3]) * 16777216
+    u32::from_le_bytes([head[at], head[at + 1], head[at + 2], head[at + 3]]) as usize
 }
 
-// The next frame's numbers; not whole at the script's end.
-pub fn read<R: Read>(input: &mut R) -> io::Result<Frame> {
+// The next frame's numbers; none at the script's end.
+pub fn read<R: Read>(input: &mut R) -> io::Result<Option<Frame>> {
     let mut head = [0u8; 24];
-    let got = reading::read_full(input, &mut head)?;
-    Ok(Frame {
-        whole: got == 24,
-        call: head[0],
-        first: head[1],
-        second: head[2],
+    if reading::read_full(input, &mut head)? < 24 {
+        return Ok(None);
+    }
+    Ok(Some(Frame {
+        call: Call::try_from(head[0]).ok(),
+        first: usize::from(head[1]),
+        second: usize::from(head[2]),
         file: u32_at(&head, 4),
         given: u32_at(&head, 8),
         output: u32_at(&head, 12),
-        scratch: u32_at(&head, 16),
-    })
+    }))
 }

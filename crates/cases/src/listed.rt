@@ -2,43 +2,36 @@
 ghost use Rattle.rebac.specs.Matter.{Matter};
 ghost use Rattle.graph.specs.promises.Archive.{Shows};
 
-use crate::frame::Frame;
-use crate::print::{hex_bytes, line, text};
-use crate::{LARGE, fill, refused, show_number};
-use comparison::CompareReply;
+use crate::frame::{Call, Frame};
+use crate::print::hex_bytes;
+use crate::{LARGE, fill, refused};
+use comparison::Difference;
 use graph::Archive;
-use house_layout::{Check, Refusal};
+use house_layout::Refusal;
 use mining::Pair;
-use rules::PermitReply;
 use std::io;
 use std::io::{Read, Write};
 
 fn show_permit<W: Write>(f: Frame, file: &[u8], list: &[u8], out: &mut W) -> io::Result<()> {
-    text(out, b"permit")?;
-    let first = f.first as usize;
-    let second = f.second as usize;
-    let reply = rules::permit_call(file, list, first, second);
-    match reply {
-        PermitReply::Refused(e) => refused(e, out),
-        PermitReply::Yes => text(out, b" yes\n"),
-        PermitReply::No => text(out, b" no\n"),
+    write!(out, "permit")?;
+    match rules::permit_call(file, list, f.first, f.second) {
+        Err(e) => refused(e, out),
+        Ok(true) => writeln!(out, " yes"),
+        Ok(false) => writeln!(out, " no"),
     }
 }
 
-fn show_difference<W: Write>(p: Pair, side: &[u8], out: &mut W) -> io::Result<()> {
-    show_number(p.first, out)?;
-    show_number(p.second, out)?;
-    text(out, side)
+fn show_difference<W: Write>(p: Pair, side: &str, out: &mut W) -> io::Result<()> {
+    writeln!(out, " {} {} {side}", p.first, p.second)
 }
 
 fn show_compare<W: Write>(file: &[u8], list: &[u8], out: &mut W) -> io::Result<()> {
-    text(out, b"compare")?;
-    let reply = comparison::compare_call(file, list);
-    match reply {
-        CompareReply::Refused(e) => refused(e, out),
-        CompareReply::Same => text(out, b" same\n"),
-        CompareReply::OnlyFile(p) => show_difference(p, b" file\n", out),
-        CompareReply::OnlyList(p) => show_difference(p, b" list\n", out),
+    write!(out, "compare")?;
+    match comparison::compare_call(file, list) {
+        Err(e) => refused(e, out),
+        Ok(None) => writeln!(out, " same"),
+        Ok(Some(Difference::OnlyFile(p))) => show_difference(p, "file", out),
+        Ok(Some(Difference::OnlyList(p))) => show_difference(p, "list", out),
     }
 }
 
@@ -56,19 +49,16 @@ fn show_text_in<W: Write>(a: Archive, list: &[u8], space: &mut [u8], out: &mut W
     if space.len() < k {
         return Ok(());
     }
-    text(out, b" ")?;
+    write!(out, " ")?;
     hex_bytes(out, &space[..k])?;
-    line(out)
+    writeln!(out)
 }
 
 fn show_text<W: Write>(file: &[u8], list: &[u8], out: &mut W) -> io::Result<()> {
-    text(out, b"text")?;
-    let r = graph::load(file);
-    let reply = r.reply;
-    match reply {
-        Check::Refused(e) => refused(e, out),
-        Check::Accepted => {
-            let a = r.archive;
+    write!(out, "text")?;
+    match graph::load(file) {
+        Err(e) => refused(e, out),
+        Ok(a) => {
             let mut space = [0u8; LARGE];
             show_text_in(a, list, &mut space, out)
         }
@@ -77,12 +67,10 @@ fn show_text<W: Write>(file: &[u8], list: &[u8], out: &mut W) -> io::Result<()> 
 
 // Runs the call of a frame with its list.
 fn show<W: Write>(f: Frame, file: &[u8], list: &[u8], out: &mut W) -> io::Result<()> {
-    if f.call == b'r' {
-        show_permit(f, file, list, out)
-    } else if f.call == b'm' {
-        show_compare(file, list, out)
-    } else {
-        show_text(file, list, out)
+    match f.call {
+        Some(Call::Permit) => show_permit(f, file, list, out),
+        Some(Call::Compare) => show_compare(file, list, out),
+        _ => show_text(file, list, out),
     }
 }
 
@@ -90,14 +78,13 @@ fn show<W: Write>(f: Frame, file: &[u8], list: &[u8], out: &mut W) -> io::Result
 pub fn run_list<R: Read, W: Write>(
     f: Frame,
     file: &[u8],
-    space: &mut [u8],
     input: &mut R,
     out: &mut W,
 ) -> io::Result<bool> {
-    let n = f.given;
-    if fill(space, n, input)? {
-        show(f, file, &space[..n], out)?;
-        return Ok(true);
+    let mut list = [0u8; LARGE];
+    if !fill(&mut list, f.given, input)? {
+        return Ok(false);
     }
-    Ok(false)
+    show(f, file, &list[..f.given], out)?;
+    Ok(true)
 }

@@ -5,8 +5,7 @@
 ghost use Rattle.std.specs.Prelude.{◌≡◌, true, ◌≤◌, length, IfOk};
 
 use house_file::House;
-use house_layout::Check;
-use limits::MOST_PARTIES;
+use house_layout::Refusal;
 use std::io;
 use std::io::{Read, Write};
 
@@ -17,107 +16,57 @@ mod print;
 mod tested;
 mod written;
 
-use frame::Frame;
-use print::{decimal, hex_byte, hex_mask, line, text};
-
 // Room for a file, a rule list, its text, or an output with its guards.
 pub const LARGE: usize = 65536;
 
-pub fn refused<W: Write>(e: house_layout::Refusal, out: &mut W) -> io::Result<()> {
-    text(out, b" refused ")?;
-    decimal(out, house_layout::number(e) as u64)?;
-    line(out)
+pub fn refused<W: Write>(e: Refusal, out: &mut W) -> io::Result<()> {
+    let number = u8::from(e);
+    writeln!(out, " refused {number}")
 }
 
-fn show_check<W: Write>(file: &[u8], out: &mut W) -> io::Result<()> {
-    text(out, b"check")?;
-    let reply = house_file::check(file);
-    match reply {
-        Check::Accepted => text(out, b" accepted\n"),
-        Check::Refused(e) => refused(e, out),
+pub fn show_check<W: Write>(file: &[u8], out: &mut W) -> io::Result<()> {
+    write!(out, "check")?;
+    match house_file::check(file) {
+        Ok(()) => writeln!(out, " accepted"),
+        Err(e) => refused(e, out),
     }
 }
 
-// A space and the number.
-pub fn show_number<W: Write>(x: usize, out: &mut W) -> io::Result<()> {
-    text(out, b" ")?;
-    decimal(out, x as u64)
-}
-
-// The labels of one pair, where there are any.
-fn show_relation<W: Write>(u: usize, v: usize, kinds: u32, out: &mut W) -> io::Result<()> {
-    let labels = (kinds % 256) as u8;
-    if labels != 0 {
-        text(out, b"relation")?;
-        show_number(u, out)?;
-        show_number(v, out)?;
-        text(out, b" ")?;
-        hex_byte(out, labels)?;
-        line(out)?;
+// The labels of each pair of one party, where there are any.
+fn show_row<W: Write>(u: usize, row: &masks::Row, out: &mut W) -> io::Result<()> {
+    for (v, kinds) in row.masks.iter().enumerate() {
+        let labels = kinds % 256;
+        if labels != 0 {
+            writeln!(out, "relation {u} {v} {labels:02X}")?;
+        }
     }
     Ok(())
-}
-
-fn show_row<W: Write>(u: usize, row: masks::Row, out: &mut W) -> io::Result<()> {
-    let mut v = 0;
-    while v < MOST_PARTIES {
-        show_relation(u, v, row.masks[v], out)?;
-        v += 1;
-    }
-    Ok(())
-}
-
-fn show_permits<W: Write>(permits: masks::Row, out: &mut W) -> io::Result<()> {
-    text(out, b"permits")?;
-    let mut u = 0;
-    while u < MOST_PARTIES {
-        text(out, b" ")?;
-        hex_mask(out, permits.masks[u])?;
-        u += 1;
-    }
-    line(out)
 }
 
 fn show_house<W: Write>(house: House, out: &mut W) -> io::Result<()> {
     let h = house.header;
-    show_number(h.parties, out)?;
-    show_number(h.labels, out)?;
-    show_number(h.language, out)?;
-    show_number(h.longest, out)?;
-    line(out)?;
-    let permits = house.permits;
-    show_permits(permits, out)?;
-    let kinds = house.kinds;
-    let mut u = 0;
-    while u < MOST_PARTIES {
-        let row = kinds.rows[u];
+    writeln!(
+        out,
+        " {} {} {} {}",
+        h.parties, h.labels, h.language, h.longest
+    )?;
+    write!(out, "permits")?;
+    for permits in house.permits.masks {
+        write!(out, " {permits:08X}")?;
+    }
+    writeln!(out)?;
+    for (u, row) in house.kinds.rows.iter().enumerate() {
         show_row(u, row, out)?;
-        u += 1;
     }
     Ok(())
 }
 
-fn show_decode<W: Write>(file: &[u8], out: &mut W) -> io::Result<()> {
-    text(out, b"decode")?;
-    let r = house_file::read(file);
-    let reply = r.reply;
-    match reply {
-        Check::Accepted => {
-            let house = r.house;
-            show_house(house, out)
-        }
-        Check::Refused(e) => refused(e, out),
+pub fn show_decode<W: Write>(file: &[u8], out: &mut W) -> io::Result<()> {
+    write!(out, "decode")?;
+    match house_file::read(file) {
+        Ok(house) => show_house(house, out),
+        Err(e) => refused(e, out),
     }
-}
-
-fn run<W: Write>(call: u8, file: &[u8], out: &mut W) -> io::Result<()> {
-    if call == b'c' {
-        show_check(file, out)?;
-    }
-    if call == b'd' {
-        show_decode(file, out)?;
-    }
-    Ok(())
 }
 
 // Reads the n bytes that come next into the space; false where the space or the script is too short.
@@ -131,40 +80,26 @@ pub fn fill<R: Read>(space: &mut [u8], n: usize, input: &mut R) -> io::Result<bo
     Ok(got == n)
 }
 
-fn run_with<R: Read, W: Write>(
-    f: Frame,
-    file: &mut [u8],
-    input: &mut R,
-    out: &mut W,
-) -> io::Result<bool> {
-    let n = f.file;
-    if fill(file, n, input)? {
-        if calls::has_more(f.call) {
-            return calls::run(f, &file[..n], input, out);
-        }
-        run(f.call, &file[..n], out)?;
-        return Ok(true);
-    }
-    Ok(false)
-}
-
-// Reads and runs one frame; false at the script's end.
+// Reads and runs one frame; false at the script's end, and where the script is too short.
 fn next<R: Read, W: Write>(input: &mut R, out: &mut W) -> io::Result<bool> {
-    let f = frame::read(input)?;
-    if f.whole {
-        let mut file = [0u8; LARGE];
-        return run_with(f, &mut file, input, out);
+    let Some(f) = frame::read(input)? else {
+        return Ok(false);
+    };
+    let mut file = [0u8; LARGE];
+    if !fill(&mut file, f.file, input)? {
+        return Ok(false);
     }
-    Ok(false)
+    calls::run(f, &file[..f.file], input, out)
 }
 
-// A proved loop has to end: the turns are counted down from a number that no script uses up.
+// A proved loop has to end: no script has so many frames.
 fn main(rt: HostRuntime) -> io::Result<()> {
     let mut input = rt.stdin();
     let mut out = rt.stdout();
-    let mut turns = u64::MAX;
-    while turns > 0 && next(&mut input, &mut out)? {
-        turns -= 1;
+    for _ in 0..u64::MAX {
+        if !next(&mut input, &mut out)? {
+            break;
+        }
     }
     Ok(())
 }

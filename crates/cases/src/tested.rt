@@ -4,49 +4,49 @@ ghost use Rattle.graph.specs.promises.Archive.{Shows};
 
 use crate::calls::word_of;
 use crate::frame::Frame;
-use crate::print::{line, text};
-use crate::{fill, refused, show_number};
+use crate::{fill, refused};
 use graph::Archive;
-use house_layout::{Check, Refusal};
-use search::Word;
+use house_layout::Refusal;
+use search::{Graph, PairIn, Word};
 use std::io;
 use std::io::{Read, Write};
 use word_test::Tested;
 
-fn show_tested<W: Write>(t: Tested, out: &mut W) -> io::Result<()> {
-    if t.yes {
-        text(out, b" yes")?;
-    } else {
-        text(out, b" no")?;
+fn show_tested<W: Write>(r: Result<Tested, Refusal>, out: &mut W) -> io::Result<()> {
+    match r {
+        Err(e) => refused(e, out),
+        Ok(t) => {
+            let yes = if t.yes { "yes" } else { "no" };
+            writeln!(out, " {yes} {}", t.length)
+        }
     }
-    show_number(t.length, out)?;
-    line(out)
 }
 
 // The word test for an accepted file; pair and word are refused as path refuses them.
-fn test_in<O: Write>(
-    a: Archive,
-    first: usize,
-    second: usize,
-    w: Word,
-    out: &mut O,
-) -> io::Result<()>
+fn test_in(a: Archive, first: usize, second: usize, w: Word) -> Result<Tested, Refusal>
     requires { (M : Matter) × Shows M a }
 {
-    let n = a.parties;
-    if !graph::is_pair(n, first, second) {
-        refused(Refusal::PartyPair, out)
-    } else {
-        if !paths::legal_given_word(a.labels, a.language, a.longest, w) {
-            refused(Refusal::GivenWord, out)
-        } else {
-            if w.len == 0 {
-                refused(Refusal::GivenWord, out)
-            } else {
-                show_tested(word_test::word_test(a.graph, n, first, second, w), out)
-            }
-        }
+    if !graph::is_pair(a.parties, first, second) {
+        return Err(Refusal::PartyPair);
     }
+    let word = paths::given_word(&a, w).ok_or(Refusal::GivenWord)?;
+    if w.len == 0 {
+        return Err(Refusal::GivenWord);
+    }
+    let pair = PairIn {
+        graph: Graph {
+            parties: a.parties,
+            table: a.graph,
+        },
+        first,
+        second,
+    };
+    Ok(word_test::word_test(&pair, word))
+}
+
+fn test_call(file: &[u8], first: usize, second: usize, w: Word) -> Result<Tested, Refusal> {
+    let a = graph::load(file)?;
+    test_in(a, first, second, w)
 }
 
 // Reads the word of a frame and tests it; false where the script is too short.
@@ -61,15 +61,7 @@ pub fn run_test<R: Read, W: Write>(
         return Ok(false);
     }
     let w = word_of(&given);
-    text(out, b"test")?;
-    let r = graph::load(file);
-    let reply = r.reply;
-    match reply {
-        Check::Refused(e) => refused(e, out)?,
-        Check::Accepted => {
-            let a = r.archive;
-            test_in(a, f.first as usize, f.second as usize, w, out)?;
-        }
-    }
+    write!(out, "test")?;
+    show_tested(test_call(file, f.first, f.second, w), out)?;
     Ok(true)
 }

@@ -3,20 +3,15 @@ ghost use Rattle.std.specs.Prelude.{◌≤◌, length};
 
 use crate::calls::show_output;
 use crate::frame::Frame;
-use crate::print::{decimal, line, text};
 use crate::{LARGE, fill, refused};
-use canonical::FileReply;
+use house_layout::Refusal;
 use std::io;
 use std::io::{Read, Write};
 
-fn show_written<W: Write>(r: FileReply, out: &mut W) -> io::Result<()> {
+fn show_written<W: Write>(r: Result<usize, Refusal>, out: &mut W) -> io::Result<()> {
     match r {
-        FileReply::Refused(e) => refused(e, out),
-        FileReply::Wrote(k) => {
-            text(out, b" ")?;
-            decimal(out, k as u64)?;
-            line(out)
-        }
+        Err(e) => refused(e, out),
+        Ok(k) => writeln!(out, " {k}"),
     }
 }
 
@@ -24,7 +19,7 @@ fn show_written<W: Write>(r: FileReply, out: &mut W) -> io::Result<()> {
 fn write<W: Write>(file: &[u8], space: &mut [u8], end: usize, out: &mut W) -> io::Result<()>
     requires { (16 ≤ end) × (end ≤ length space.old) }
 {
-    text(out, b"write")?;
+    write!(out, "write")?;
     show_written(canonical::write_call(file, &mut space[16..end]), out)
 }
 

@@ -12,30 +12,32 @@ use Rattle.lists.specs.Order.{Distinct}
 use Rattle.lists.proofs.Cases.{by_test, both}
 use Rattle.limits.specs.Limits.{most_parties, symbol_count}
 use Rattle.masks.specs.promises.Mask.{test_bit}
-use Rattle.masks.specs.promises.Table.{mask_in}
+use Rattle.masks.specs.promises.Table.{mask_in, mask_at}
 use Rattle.masks.specs.declared.Row.{Row}
+use Rattle.masks.specs.declared.Table.{Table}
 use Rattle.rebac.specs.Matter.{pair}
 use Rattle.rebac.specs.Paths.{Walk, has}
 use Rattle.rebac.proofs.Reach.{has_walk}
 use Rattle.search.specs.declared.word.Word.{Word}
 use Rattle.search.specs.promises.WordValues.{Short}
+use Rattle.search.specs.promises.PairSearch.{table_graph}
 use Rattle.words.specs.promises.Next.{Places}
 use Rattle.letters.specs.promises.Following.{Follows}
-use Rattle.letters.specs.promises.Letters.{letters_graph}
 use Rattle.classes.specs.promises.Prefixes.{Closed, After}
+use Rattle.classes.specs.declared.pairs.PairsInLetters.{PairsInLetters}
 
-module _ (masks : List ℕ) (row : Row) (n : ℕ) (few : n ≤ most_parties) (F : Follows masks row) where
+module _ (g : Table) (row : Row) (n : ℕ) (few : n ≤ most_parties) (F : Follows g row) where
   -- over three parties
   two_letters : (x y z b c : ℕ) → x < n → y < n → z < n → (z ≡ x → ⊥) → b < symbol_count
-      → test_bit (get_or masks (most_parties * x + y) 0) b ≡ true → test_bit (get_or masks (most_parties * y + z) 0) c ≡ true
+      → test_bit (mask_at g x y) b ≡ true → test_bit (mask_at g y z) c ≡ true
       → test_bit (mask_in row b) c ≡ true
   two_letters x y z b c i j k apart small s t =
       let first : (most_parties * x + y) / most_parties ≡ x = omega arith in
       let second : (most_parties * x + y) % most_parties ≡ y = omega arith in
-      F (most_parties * x + y) z b c (omega arith) (omega arith) (λ e. apart (e ∙ first)) small s (rw second t)
+      F (most_parties * x + y) z b c (omega arith) (omega arith) (λ e. apart (e ∙ first)) small (rw (first, second) s) (rw second t)
 
   walk_follows : (fixed rest via : List ℕ) (m c a e : ℕ) → length fixed ≡ suc m → get_or fixed m 0 < symbol_count → a < n
-      → Distinct (a ∷ via) → Walk (letters_graph n masks) a via (fixed ++ (c ∷ rest)) e → test_bit (mask_in row (get_or fixed m 0)) c ≡ true
+      → Distinct (a ∷ via) → Walk (table_graph n g) a via (fixed ++ (c ∷ rest)) e → test_bit (mask_in row (get_or fixed m 0)) c ≡ true
   walk_follows [] rest via m c a e l small inside apart k = absurd (omega (arith, l))
   walk_follows (b ∷ fixed) rest [] m c a e l small inside apart k = absurd k
   walk_follows (b ∷ []) rest (y ∷ []) m c a e l small inside apart k = absurd k.2
@@ -48,11 +50,11 @@ module _ (masks : List ℕ) (row : Row) (n : ℕ) (few : n ≤ most_parties) (F 
 
   module _ (first second : ℕ) (inside : first < n) where
     after_closed : (fixed : List ℕ) (m k c : ℕ) → length fixed ≡ suc m → get_or fixed m 0 < symbol_count
-        → test_bit (mask_in row (get_or fixed m 0)) c ≡ false → Closed (letters_graph n masks) (pair first second) fixed k c
+        → test_bit (mask_in row (get_or fixed m 0)) c ≡ false → Closed (table_graph n g) (pair first second) fixed k c
     after_closed fixed m k c l small e rest size =
-        by_test (has (letters_graph n masks) (pair first second) (fixed ++ (c ∷ rest)))
+        by_test (has (table_graph n g) (pair first second) (fixed ++ (c ∷ rest)))
         (λ h.
-        let x = has_walk (letters_graph n masks) (pair first second) (fixed ++ (c ∷ rest)) h in
+        let x = has_walk (table_graph n g) (pair first second) (fixed ++ (c ∷ rest)) h in
         both (walk_follows fixed rest x.0 m c first second l small inside x.1.simple x.1.walk) e)
         (λ h. h)
 
@@ -63,9 +65,10 @@ before_place w fixed k {at} p l some h =
     sym (get_or-append fixed (0 ∷ replicate k 0) 0 (at - 1) (omega (arith, l)))
     ∙ rw (← p) (get_or-take w.len w.symbols (at - 1) 0 (omega arith))
 
-pub after_row : (row : Row) (w : Word) (at : ℕ) → Short w → 0 < at → at < w.len
-    → After row w at (mask_in row (get_or w.symbols (at - 1) 0))
-after_row row w at s some h masks n first second few inside F fixed k p l c low high e =
-    let same = before_place w fixed k p l some h in
-    after_closed masks row n few F first second inside fixed (at - 1) k c (omega (arith, l))
-    (omega (arith, same, s.symbols (at - 1) (omega arith))) (rw same e)
+pub after_row : (s : PairsInLetters) (w : Word) (at : ℕ) → Short w → 0 < at → at < w.len
+    → After s w at (mask_in s.follow (get_or w.symbols (at - 1) 0))
+after_row s w at short some h fixed k p size c low high e =
+    let same = before_place w fixed k p size some h in
+    let q = s.pairs in
+    after_closed q.graph.table s.follow q.graph.parties q.graph.within s.follows q.first q.second q.is_pair.first fixed (at - 1) k c
+    (omega (arith, size)) (omega (arith, same, short.symbols (at - 1) (omega arith))) (rw same e)

@@ -28,18 +28,17 @@ use Rattle.rebac.proofs.LexOrder.{lex_irreflexive, lex_transitive}
 use Rattle.rebac.proofs.NextWords.{Finds}
 use Rattle.rebac.proofs.WordsLaws.{length_in, length_out, length_ascending}
 use Rattle.search.specs.Word.{symbols_in}
-use Rattle.search.specs.promises.WordValues.{Short}
-use Rattle.words.specs.promises.Next.{NextAs}
-use Rattle.words.specs.declared.next.Next.{Next}
-use Rattle.words.proofs.NextLaws.{next_not, next_some}
+use Rattle.search.specs.declared.word.ShortWord.{ShortWord}
+use Rattle.words.specs.promises.Next.{WordAs}
+use Rattle.std.specs.Prelude.{MatchOption, None, Some, Option as Maybe}
 
 -- how many words of k symbols stand after a word, and after the word in hand with it: the measure of going through them
 unfoldable pub words_after : ℕ → List ℕ → ℕ
 words_after k w = length (filter_by (lex_less w) (words_of_length (range symbol_count) k))
 
-abbrev pub words_from : ℕ → Bool → List ℕ → ℕ
-words_from k true w = suc (words_after k w)
-words_from k false w = 0
+abbrev pub words_from : ℕ → Maybe ShortWord → ℕ
+words_from k None = 0
+words_from k (Some w) = suc (words_after k (symbols_in w.word))
 
 module _ (g : Graph ℕ) (p q : Pair) (k : ℕ) where
   -- a word of k symbols that the first pair has, before which none tells
@@ -49,30 +48,24 @@ module _ (g : Graph ℕ) (p q : Pair) (k : ℕ) where
     pub least : (v : List ℕ) → length v ≡ k → tells g p q v ≡ true → (w ≡ v) ⊎ (lex_less w v ≡ true)
 
   -- where the passing stands: such a word is in hand, or none of k symbols tells
-  pub record PassTurn (r : Next) : Type 0 where
-    pub short : Short r.word
-    pub hand : r.found ≡ true → NoneBefore (symbols_in r.word)
-    pub ended : r.found ≡ false → (v : List ℕ) → length v ≡ k → tells g p q v ≡ false
+  abbrev pub PassTurn : Maybe ShortWord → Type 0
+  PassTurn r = MatchOption r ((v : List ℕ) → length v ≡ k → tells g p q v ≡ false) (λ w. NoneBefore (symbols_in w.word))
 
   -- the least of some words that the pair has, among which are all that tell
-  pass_least : {A : List ℕ → Type 0} {o : Option (List ℕ)} (r : Next) → Short r.word → NextAs o r → Finds lex_less A o
+  pass_least : {A : List ℕ → Type 0} {o : Option (List ℕ)} (r : Maybe ShortWord) → WordAs o r → Finds lex_less A o
       → ((v : List ℕ) → A v → (length v ≡ k) × (has g p v ≡ true))
       → ((v : List ℕ) → length v ≡ k → tells g p q v ≡ true → A v) → PassTurn r
-  pass_least {A} {o} r s h f sound among = record {
-    short = s;
-    hand = λ t.
-        let x = next_some o r h t in
-        let e : o ≡ some (symbols_in r.word) = x.1.0 ∙ ap some (sym x.1.1) in
-        let w = f.found (symbols_in r.word) e in
-        record {
-          size = (sound _ w).0;
-          held = (sound _ w).1;
-          least = λ v l t. f.least (symbols_in r.word) e v (among v l t);
-        };
-    ended = λ t v l. by_test (tells g p q v)
-        (λ y. absurd (f.missing (next_not o r h t) v (among v l y)))
-        (λ y. y);
-  }
+  pass_least None h f sound among = λ v l.
+      by_test (tells g p q v)
+      (λ y. absurd (f.missing h v (among v l y)))
+      (λ y. y)
+  pass_least (Some w) e f sound among =
+      let a = f.found (symbols_in w.word) e in
+      record {
+        size = (sound _ a).0;
+        held = (sound _ a).1;
+        least = λ v l t. f.least (symbols_in w.word) e v (among v l t);
+      }
 
   -- the word in hand tells exactly where the second pair lacks it
   pub tells_by : {w : List ℕ} {b : Bool} → NoneBefore w → has g q w ≡ b → tells g p q w ≡ not b
@@ -108,10 +101,10 @@ module _ (g : Graph ℕ) (p q : Pair) (k : ℕ) where
         (first_least lex_less (tells g p q) (words_of_length al k) (length_ascending al up k) e m t)))
 
     -- the word in hand does not tell: the next of its length
-    pub pass_next : (w : List ℕ) → NoneBefore w → tells g p q w ≡ false → (r : Next) → Short r.word
-        → NextAs (next_same_length al g p [] w) r → PassTurn r
-    pass_next w i t r s h =
-        pass_least r s h (same_finds al g listed p up [] w)
+    pub pass_next : (w : List ℕ) → NoneBefore w → tells g p q w ≡ false → (r : Maybe ShortWord)
+        → WordAs (next_same_length al g p [] w) r → PassTurn r
+    pass_next w i t r h =
+        pass_least r h (same_finds al g listed p up [] w)
         (λ v x. (ap length x.split ∙ x.size ∙ i.size, x.held))
         (λ v l y. ⊎_elim
         (λ (z : w ≡ v). both y (ap (tells g p q) (sym z) ∙ t))
@@ -125,15 +118,13 @@ module _ (g : Graph ℕ) (p q : Pair) (k : ℕ) where
         (i.least v l y))
 
     -- and fewer are left
-    pub words_fall : ((s : ℕ) → Memᴰ s al → s < symbol_count) → (w : List ℕ) → NoneBefore w → (r : Next)
-        → NextAs (next_same_length al g p [] w) r → words_from k r.found (symbols_in r.word) < words_from k true w
+    pub words_fall : ((s : ℕ) → Memᴰ s al → s < symbol_count) → (w : List ℕ) → NoneBefore w → (r : Maybe ShortWord)
+        → WordAs (next_same_length al g p [] w) r → words_from k r < suc (words_after k w)
     unfolding words_after
-    words_fall below w i r h =
-        by_test r.found
-        (λ t.
-        let x = next_some (next_same_length al g p [] w) r h t in
-        let v : List ℕ = symbols_in r.word in
-        let f = (same_finds al g listed p up [] w).found v (x.1.0 ∙ ap some (sym x.1.1)) in
+    words_fall below w i None h = omega arith
+    words_fall below w i (Some x) h =
+        let v : List ℕ = symbols_in x.word in
+        let f = (same_finds al g listed p up [] w).found v h in
         let size : length v ≡ k = ap length f.split ∙ f.size ∙ i.size in
         let over : (s : ℕ) → Memᴰ s v → Memᴰ s (range symbol_count) =
         λ s m. range_in symbol_count s (below s (has_over al g listed p v f.held s m)) in
@@ -141,14 +132,13 @@ module _ (g : Graph ℕ) (p q : Pair) (k : ℕ) where
         let after : lex_less w v ≡ true = rw (← f.split) at f.after in
         let fewer = filter_strictly (lex_less v) (lex_less w) (words_of_length (range symbol_count) k)
         (λ x n y. lex_transitive w v x after y) m (lex_irreflexive v) after in
-        rw t (omega (arith, fewer)))
-        (λ t. rw t (omega arith))
+        omega (arith, fewer)
 
 -- the first of k + 1 symbols
 pub pass_first : (g : Graph ℕ) (p q : Pair) (k : ℕ) (al : List ℕ) → ((u v s : ℕ) → g.edge u v s ≡ true → Memᴰ s al)
-    → Ascending ltb al → (r : Next) → Short r.word → NextAs (complete al g p [] 0 k) r → PassTurn g p q (suc k) r
-pass_first g p q k al listed up r s h =
-    pass_least g p q (suc k) r s h (complete_finds al g listed p up [] 0 k)
+    → Ascending ltb al → (r : Maybe ShortWord) → WordAs (complete al g p [] 0 k) r → PassTurn g p q (suc k) r
+pass_first g p q k al listed up r h =
+    pass_least g p q (suc k) r h (complete_finds al g listed p up [] 0 k)
     (λ v x. (ap length x.split ∙ ap suc x.size, x.held))
     (λ v l y. formed v l (tells_has g p q v y))
   where

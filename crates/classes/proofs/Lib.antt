@@ -1,4 +1,3 @@
-pub mod TableLaws
 pub mod OpenLaws
 pub mod PrefixLaws
 pub mod SeekLaws

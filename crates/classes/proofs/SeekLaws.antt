@@ -1,28 +1,30 @@
 -- The seeking turn by turn: the letters that may stand at a place are tried one after another, and the first word found is the answer.
 -- Assumes nothing.
-use mathlib.Core.Path.{◌≡◌, sym, ap, ◌∙◌}
+use mathlib.Core.Path.{◌≡◌, sym, ap, ◌∙◌, subst}
 use mathlib.Core.Bool.{true, false}
 use mathlib.Core.List.{List, [], ◌∷◌, ◌++◌, append_assoc, append-nil}
-use mathlib.Core.Option.{Option, none}
+use mathlib.Core.Option.{Option, none, some}
 use Prim.Native.Nat.{ℕ, zero, suc, ◌+◌, ◌-◌, ◌≤◌, ◌<◌}
 use native.Mathlib.Omega.{arith}
 use native.Mathlib.Numerals.{add-one}
-use lib.ListN.{length, replicate, length-append, length-replicate}
+use lib.ListN.{length, replicate, set, length-append, length-replicate}
 use Rattle.lists.specs.Lists.{first_by, up_from}
-use Rattle.lists.proofs.Cases.{by_test}
-use Rattle.rebac.specs.Matter.{Pair, pair}
+use Rattle.rebac.specs.Matter.{Pair}
 use Rattle.rebac.specs.Paths.{Graph}
 use Rattle.rebac.specs.promises.Options.{or_else, first_some}
 use Rattle.rebac.specs.promises.Telling.{tells}
 use Rattle.search.specs.Word.{symbols_in}
 use Rattle.search.specs.promises.WordValues.{Short}
+use Rattle.search.specs.promises.PairSearch.{graph_of}
+use Rattle.search.specs.declared.pair.TwoPairsIn.{TwoPairsIn}
+use Rattle.search.specs.declared.word.ShortWord.{ShortWord}
 use Rattle.search.specs.declared.word.Word.{Word}
 use Rattle.search.proofs.SearchLaws.{symbols_length, short_fits}
-use Rattle.words.specs.promises.Next.{Places, NextAs, SymbolPut}
-use Rattle.words.specs.declared.next.Next.{Next}
-use Rattle.words.proofs.NextLaws.{put_places, next_not, next_some, next_as, or_found}
-use Rattle.letters.specs.promises.Letters.{letters_graph, Classed}
-use Rattle.classes.specs.promises.Prefixes.{letters_from, first_onward, Sought}
+use Rattle.std.specs.Prelude.{None, Some, Option as Maybe, is_some}
+use Rattle.words.specs.promises.Next.{Places, WordAs}
+use Rattle.words.proofs.NextLaws.{symbol_places, word_not, word_as, or_found}
+use Rattle.letters.specs.promises.Letters.{Classed}
+use Rattle.classes.specs.promises.Prefixes.{own_pair, other_pair, letters_from, first_onward, Sought}
 use Rattle.classes.proofs.PrefixLaws.{prefix_none, onward_end, onward_step}
 
 -- as many zeros as places are left
@@ -44,108 +46,104 @@ module _ (f : ℕ → Option (List ℕ)) (c high : ℕ) where
   letters_end h = let e : high - c ≡ 0 = omega arith in rw e
 
 -- no place is left: the word itself, if it tells
-pub seek_end : (g : Graph ℕ) (p q : Pair) (al fixed : List ℕ) (r : Next) → symbols_in r.word ≡ fixed → r.found ≡ tells g p q fixed
-    → NextAs (first_onward g p q al fixed 0) r
-unfolding first_by
-seek_end g p q al fixed r e f =
-    by_test (tells g p q fixed)
-    (λ t. rw (onward_end g p q al fixed, t, first_by) (f ∙ t, e))
-    (λ t. rw (onward_end g p q al fixed, t, first_by) (f ∙ t))
+module _ (g : Graph ℕ) (p q : Pair) (al fixed : List ℕ) where
+  seek_tells : tells g p q fixed ≡ true → first_onward g p q al fixed 0 ≡ some fixed
+  unfolding first_by
+  seek_tells t = rw (onward_end g p q al fixed, t, first_by)
+
+  seek_lacks : tells g p q fixed ≡ false → first_onward g p q al fixed 0 ≡ none
+  unfolding first_by
+  seek_lacks t = rw (onward_end g p q al fixed, t, first_by)
 
 -- the first telling word from a place on, and the same with letter c at the place
-abbrev onward : List ℕ → ℕ → ℕ → ℕ → ℕ → ℕ → ℕ → ℕ → List ℕ → ℕ → Option (List ℕ)
-onward masks n first second u v low high = first_onward (letters_graph n masks) (pair first second) (pair u v) (letters_from low high)
+abbrev onward : TwoPairsIn → ℕ → ℕ → List ℕ → ℕ → Option (List ℕ)
+onward q low high = first_onward (graph_of q.graph) (own_pair q) (other_pair q) (letters_from low high)
 
-abbrev by_letter : List ℕ → ℕ → ℕ → ℕ → ℕ → ℕ → ℕ → ℕ → List ℕ → ℕ → ℕ → Option (List ℕ)
-by_letter masks n first second u v low high fixed k c = onward masks n first second u v low high (fixed ++ (c ∷ [])) k
+abbrev by_letter : TwoPairsIn → ℕ → ℕ → List ℕ → ℕ → ℕ → Option (List ℕ)
+by_letter q low high fixed k c = onward q low high (fixed ++ (c ∷ [])) k
 
 -- where the seeking stands: no word with a letter before c tells
-pub record Turn (masks : List ℕ) (n first second u v : ℕ) (w : Word) (at low high c : ℕ) : Type 0 where
+pub record Turn (q : TwoPairsIn) (w : Word) (at low high c : ℕ) : Type 0 where
   pub from : low ≤ c
   pub left : (fixed : List ℕ) (k : ℕ) → Places w fixed 0 k → length fixed ≡ at
-      → onward masks n first second u v low high fixed (suc k)
-      ≡ first_some (by_letter masks n first second u v low high fixed k) (letters_from c high)
+      → onward q low high fixed (suc k)
+      ≡ first_some (by_letter q low high fixed k) (letters_from c high)
 
-module _ {masks : List ℕ} {n first second u v : ℕ} {w : Word} {at low high : ℕ} where
-  pub turn_start : Turn masks n first second u v w at low high low
+module _ (q : TwoPairsIn) (w : ShortWord) (at low high : ℕ) where
+  pub turn_start : Turn q w.word at low high low
   turn_start = record {
     from = omega arith;
-    left = λ fixed k p l. onward_step (letters_graph n masks) (pair first second) (pair u v) (letters_from low high) fixed k;
+    left = λ fixed k p l. onward_step (graph_of q.graph) (own_pair q) (other_pair q) (letters_from low high) fixed k;
   }
 
   -- letter c leads to no telling word
-  pub turn_skip : {c : ℕ} → Turn masks n first second u v w at low high c → c < high
-      → ((fixed : List ℕ) (k : ℕ) → Places w fixed 0 k → length fixed ≡ at
-      → by_letter masks n first second u v low high fixed k c ≡ none)
-      → Turn masks n first second u v w at low high (c + 1)
+  pub turn_skip : {c : ℕ} → Turn q w.word at low high c → c < high
+      → ((fixed : List ℕ) (k : ℕ) → Places w.word fixed 0 k → length fixed ≡ at
+      → by_letter q low high fixed k c ≡ none)
+      → Turn q w.word at low high (c + 1)
   turn_skip {c} t h f = record {
     from = omega (arith, t.from);
-    left = λ fixed k p l. t.left fixed k p l ∙ letters_turn (by_letter masks n first second u v low high fixed k) c high h
+    left = λ fixed k p l. t.left fixed k p l ∙ letters_turn (by_letter q low high fixed k) c high h
         ∙ rw (f fixed k p l);
   }
 
   -- a word found is that of some place left, for each count of zeros
-  pub sought : (r : Next) → Short w → at < w.len → Short r.word
-      → ((fixed : List ℕ) (k : ℕ) → Places w fixed 0 k → length fixed ≡ at
-      → NextAs (onward masks n first second u v low high fixed (suc k)) r)
-      → Sought masks n first second u v w at low high r
-  sought r s h sr f = record { short = sr; next = go }
-    where
-      go : (fixed : List ℕ) (k : ℕ) → symbols_in w ≡ fixed ++ replicate k 0 → length fixed ≡ at
-          → NextAs (onward masks n first second u v low high fixed k) r
-      go fixed zero e l = absurd (omega (arith, places_left w s fixed 0 at e l))
-      go fixed (suc k) e l = f fixed k e l
+  sought : (r : Maybe ShortWord) → at < w.word.len
+      → ((fixed : List ℕ) (k : ℕ) → Places w.word fixed 0 k → length fixed ≡ at
+      → WordAs (onward q low high fixed (suc k)) r)
+      → Sought q w.word at low high r
+  sought r h f fixed zero e l = absurd (omega (arith, places_left w.word w.short fixed 0 at e l))
+  sought r h f fixed (suc k) e l = f fixed k e l
 
   -- no place is left
-  pub ended : (r : Next) → Short w → w.len ≤ at → r.word ≡ w
-      → r.found ≡ tells (letters_graph n masks) (pair first second) (pair u v) (symbols_in w)
-      → Sought masks n first second u v w at low high r
-  ended r s h e f = record { short = rw e s; next = go }
-    where
-      go : (fixed : List ℕ) (k : ℕ) → symbols_in w ≡ fixed ++ replicate k 0 → length fixed ≡ at
-          → NextAs (onward masks n first second u v low high fixed k) r
-      go fixed zero q l =
-          let same : symbols_in w ≡ fixed = q ∙ append-nil fixed in
-          seek_end (letters_graph n masks) (pair first second) (pair u v) (letters_from low high) fixed r
-          (ap symbols_in e ∙ same) (f ∙ ap (tells (letters_graph n masks) (pair first second) (pair u v)) same)
-      go fixed (suc k) q l = absurd (omega (arith, places_left w s fixed (suc k) at q l))
+  ended : (r : Maybe ShortWord) → w.word.len ≤ at
+      → ((fixed : List ℕ) → symbols_in w.word ≡ fixed → WordAs (onward q low high fixed 0) r)
+      → Sought q w.word at low high r
+  ended r h f fixed zero e l = f fixed (e ∙ append-nil fixed)
+  ended r h f fixed (suc k) e l = absurd (omega (arith, places_left w.word w.short fixed (suc k) at e l))
+
+  pub ended_here : w.word.len ≤ at → tells (graph_of q.graph) (own_pair q) (other_pair q) (symbols_in w.word) ≡ true
+      → Sought q w.word at low high (Some w)
+  ended_here h t =
+      ended (Some w) h (λ fixed e.
+      subst (λ (l : List ℕ). onward q low high l 0 ≡ some (symbols_in w.word)) e
+      (seek_tells (graph_of q.graph) (own_pair q) (other_pair q) (letters_from low high) (symbols_in w.word) t))
+
+  pub ended_none : w.word.len ≤ at → tells (graph_of q.graph) (own_pair q) (other_pair q) (symbols_in w.word) ≡ false
+      → Sought q w.word at low high None
+  ended_none h t =
+      ended None h (λ fixed e.
+      subst (λ (l : List ℕ). onward q low high l 0 ≡ none) e
+      (seek_lacks (graph_of q.graph) (own_pair q) (other_pair q) (letters_from low high) (symbols_in w.word) t))
 
   -- no word with classes in the place of the letters tells
-  pub passed : (end : ℕ) → high ≤ end → Classed (letters_graph n masks) high end → first < n → u < n
-      → (classes r : Next) → Sought masks n first second u v w at high end classes → classes.found ≡ false
-      → Short w → at < w.len → (r.found ≡ false) × (r.word ≡ w) → Sought masks n first second u v w at low high r
-  passed end b C inside other classes r c f s h e =
-      sought r s h (rw e.1 s)
+  pub passed : (end : ℕ) → high ≤ end → Classed (graph_of q.graph) high end → (classes : Maybe ShortWord)
+      → Sought q w.word at high end classes → is_some classes ≡ false → at < w.word.len → Sought q w.word at low high None
+  passed end b C classes c f h =
+      sought None h
       (λ fixed k p l.
-      let none-classes = next_not _ classes (c.next fixed (suc k) p l) f in
-      let g : Graph ℕ = letters_graph n masks in
-      rw (prefix_none g (pair first second) (pair u v) low high end b C inside other fixed (suc k) none-classes) e.0)
+      prefix_none (graph_of q.graph) (own_pair q) (other_pair q) low high end b C q.is_pair.first q.other.first fixed (suc k)
+      (word_not _ classes (c fixed (suc k) p l) f))
 
   -- what was found with letter c at the place
-  module _ {c : ℕ} {x : Word} (put : SymbolPut w at c x) (h : at < w.len) (r : Next)
-      (s : Sought masks n first second u v x (at + 1) low high r) where
-    pub letter_tried : (fixed : List ℕ) (k : ℕ) → Places w fixed 0 k → length fixed ≡ at
-        → NextAs (by_letter masks n first second u v low high fixed k c) r
+  module _ (c : ℕ) (x : Word) (len : x.len ≡ w.word.len) (put : x.symbols ≡ set w.word.symbols at c) (h : at < w.word.len)
+      (r : Maybe ShortWord) (s : Sought q x (at + 1) low high r) where
+    letter_tried : (fixed : List ℕ) (k : ℕ) → Places w.word fixed 0 k → length fixed ≡ at
+        → WordAs (by_letter q low high fixed k c) r
     letter_tried fixed k p l =
-        s.next (fixed ++ (c ∷ [])) k (put_places put fixed 0 k p l h ∙ sym (append_assoc fixed (c ∷ []) (replicate k 0)))
+        s (fixed ++ (c ∷ [])) k (symbol_places w.word c len put fixed 0 k p l h ∙ sym (append_assoc fixed (c ∷ []) (replicate k 0)))
         (length-append fixed (c ∷ []) ∙ rw l)
 
-    pub turn_found : Short w → Turn masks n first second u v w at low high c → c < high → r.found ≡ true
-        → Sought masks n first second u v w at low high r
-    turn_found sw t below f =
-        sought r sw h s.short (λ fixed k p l.
-        let y = next_some (by_letter masks n first second u v low high fixed k c) r (letter_tried fixed k p l) f in
-        next_as _ r y.0
-        (t.left fixed k p l ∙ letters_turn (by_letter masks n first second u v low high fixed k) c high below
-        ∙ or_found _ _ y.0 y.1.0) f y.1.1)
+    pub turn_found : Turn q w.word at low high c → c < high → is_some r ≡ true → Sought q w.word at low high r
+    turn_found t below f =
+        sought r h (λ fixed k p l.
+        word_as (by_letter q low high fixed k c) _ r (letter_tried fixed k p l) f
+        (λ v e. t.left fixed k p l ∙ letters_turn (by_letter q low high fixed k) c high below ∙ or_found _ _ v e))
 
-    pub turn_failed : Turn masks n first second u v w at low high c → c < high → r.found ≡ false
-        → Turn masks n first second u v w at low high (c + 1)
-    turn_failed t below f = turn_skip t below (λ fixed k p l. next_not _ r (letter_tried fixed k p l) f)
+    pub turn_failed : Turn q w.word at low high c → c < high → is_some r ≡ false → Turn q w.word at low high (c + 1)
+    turn_failed t below f = turn_skip t below (λ fixed k p l. word_not _ r (letter_tried fixed k p l) f)
 
   -- all letters are tried
-  pub turn_end : {c : ℕ} → Turn masks n first second u v w at low high c → high ≤ c → (r : Next) → Short w → at < w.len
-      → (r.found ≡ false) × (r.word ≡ w) → Sought masks n first second u v w at low high r
-  turn_end {c} t h r s l e =
-      sought r s l (rw e.1 s)
-      (λ fixed k p z. rw (t.left fixed k p z ∙ letters_end (by_letter masks n first second u v low high fixed k) c high h) e.0)
+  pub turn_end : {c : ℕ} → Turn q w.word at low high c → high ≤ c → at < w.word.len → Sought q w.word at low high None
+  turn_end {c} t h l =
+      sought None l (λ fixed k p z. t.left fixed k p z ∙ letters_end (by_letter q low high fixed k) c high h)

@@ -1,96 +1,47 @@
-// The first telling word of the lengths one after another: a length for which no classes tell is passed over, any other word by word.
-ghost use Rattle.std.specs.Prelude.{List, ℕ, ◌-◌};
-ghost use Rattle.rebac.specs.Matter.{pair};
-ghost use Rattle.rebac.specs.promises.Telling.{first_telling, first_telling_longer};
-ghost use Rattle.search.specs.promises.WordValues.{Short};
-ghost use Rattle.search.specs.promises.PairSearch.{table_graph};
-ghost use Rattle.words.specs.promises.Next.{Alphabet, NextAs};
+// The first telling word of a length: where no classes tell there is none, else it is sought word by word.
+ghost use Rattle.std.specs.Prelude.{List, ℕ, IfSome};
+ghost use Rattle.rebac.specs.promises.Telling.{first_telling};
+ghost use Rattle.search.specs.promises.PairSearch.{graph_of};
+ghost use Rattle.words.specs.promises.Next.{Alphabet, WordAs};
 ghost use Rattle.letters.specs.promises.Writing.{ClassesMade};
-ghost use Rattle.classes.specs.promises.Prefixes.{WordsQuery, LengthsQuery};
+ghost use Rattle.classes.specs.promises.Prefixes.{own_pair, other_pair, WordsQuery};
 
-use crate::seek::first_telling;
+use crate::pairs::PairsInLetters;
 use letters::Letters;
-use masks::Table;
+use search::{ShortWord, TwoPairsIn};
 use word_test::has_word;
-use words::{Next, complete_from, next_same_length, nothing, zeros};
+use words::{complete_from, next_same_length};
 
-// The words of `len` symbols of the pair (first, second) in order, up to the first that (u, v) lacks.
-fn telling_by_words(
-    g: Table,
-    n: usize,
-    first: usize,
-    second: usize,
-    u: usize,
-    v: usize,
-    len: usize,
-) -> Next
-    requires { WordsQuery g n first second u v len }
-    ensures { Short result.word × ((al : List ℕ) → Alphabet al n g
-        → NextAs (first_telling (table_graph n g) (pair first second) (pair u v) al len) result) }
+// The words of `len` symbols of the first pair in order, up to the first that the second lacks.
+fn telling_by_words(q: &TwoPairsIn, len: usize) -> Option<ShortWord>
+    requires { WordsQuery q.now len }
+    ensures { (al : List ℕ) → Alphabet al q.now.graph.parties q.now.graph.table
+        → WordAs (first_telling (graph_of q.now.graph) (own_pair q.now) (other_pair q.now) al len) result }
 {
-    let mut c = complete_from(g, n, first, second, zeros(len), 0);
-    while c.found {
-        let w = c.word;
-        if !has_word(g, n, u, v, w) {
-            return c;
+    let own = q.own();
+    let other = q.other();
+    let mut next = complete_from(&own, ShortWord::zeros(len), 0);
+    while let Some(w) = next {
+        if !has_word(&other, w) {
+            return Some(w);
         }
-        c = next_same_length(g, n, first, second, w);
+        next = next_same_length(&own, w);
     }
-    c
+    None
 }
 
 // The first telling word of `len` symbols. There is none if no word of as many classes tells.
-fn telling_of_length(
-    g: Table,
-    l: Letters,
-    n: usize,
-    first: usize,
-    second: usize,
-    u: usize,
-    v: usize,
-    len: usize,
-) -> Next
-    requires { ClassesMade g l × WordsQuery g n first second u v len }
-    ensures { Short result.word × ((al : List ℕ) → Alphabet al n g
-        → NextAs (first_telling (table_graph n g) (pair first second) (pair u v) al len) result) }
+pub fn telling_of_length(q: &TwoPairsIn, l: Option<&Letters>, len: usize) -> Option<ShortWord>
+    requires query { WordsQuery q.now len }
+    requires classes { IfSome l (λ x. ClassesMade q.now.graph.table x.now) }
+    ensures { (al : List ℕ) → Alphabet al q.now.graph.parties q.now.graph.table
+        → WordAs (first_telling (graph_of q.now.graph) (own_pair q.now) (other_pair q.now) al len) result }
 {
-    if l.few {
-        let end = l.end;
-        let masks = l.masks;
-        let c = first_telling(&masks, l.follow, n, first, second, u, v, len, end, end);
-        if !c.found {
-            return c;
+    if let Some(l) = l {
+        let classes = PairsInLetters::new(q, l);
+        if classes.first_telling(len).is_none() {
+            return None;
         }
     }
-    telling_by_words(g, n, first, second, u, v, len)
-}
-
-// The first telling word of more than `from` symbols and at most d. A word of n symbols or more is on no path.
-pub fn telling_by_lengths(
-    g: Table,
-    l: Letters,
-    n: usize,
-    first: usize,
-    second: usize,
-    u: usize,
-    v: usize,
-    from: usize,
-    d: usize,
-) -> Next
-    requires { ClassesMade g l × LengthsQuery g n first second u v d }
-    ensures { Short result.word × ((al : List ℕ) → Alphabet al n g
-        → NextAs (first_telling_longer (table_graph n g) (pair first second) (pair u v) al from (d - from)) result) }
-{
-    let mut len = from;
-    while len < d {
-        len += 1;
-        if n <= len {
-            return nothing(zeros(0));
-        }
-        let c = telling_of_length(g, l, n, first, second, u, v, len);
-        if c.found {
-            return c;
-        }
-    }
-    nothing(zeros(0))
+    telling_by_words(q, len)
 }

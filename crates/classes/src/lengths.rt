@@ -1,99 +1,79 @@
 // The first telling word of the lengths one after another, in letters and then in symbols.
-ghost use Rattle.std.specs.Prelude.{◌≡◌, List, ℕ, ◌-◌};
+ghost use Rattle.std.specs.Prelude.{◌≡◌, ◌+◌, ◌-◌, ◌≤◌, ◌<◌, List, ℕ};
 ghost use Rattle.lists.specs.Lists.{range};
-ghost use Rattle.rebac.specs.Matter.{pair};
+ghost use Rattle.limits.specs.Limits.{longest_word};
 ghost use Rattle.rebac.specs.promises.Telling.{first_telling_longer};
 ghost use Rattle.search.specs.Word.{symbols_in};
-ghost use Rattle.search.specs.promises.WordValues.{Short};
-ghost use Rattle.search.specs.promises.PairSearch.{table_graph};
-ghost use Rattle.words.specs.promises.Next.{Alphabet, NextAs};
-ghost use Rattle.letters.specs.promises.Letters.{letters_graph, in_symbols};
-ghost use Rattle.classes.specs.promises.Prefixes.{PrefixQuery, SymbolsQuery, LengthsQuery};
+ghost use Rattle.search.specs.promises.PairSearch.{graph_of, table_graph};
+ghost use Rattle.words.specs.promises.Next.{Alphabet, WordAs};
+ghost use Rattle.letters.specs.promises.Letters.{in_symbols, Classed};
+ghost use Rattle.classes.specs.promises.Prefixes.{own_pair, other_pair, SymbolsQuery, TellingQuery, FirstLength};
 
-use crate::by_words::telling_by_lengths;
-use crate::seek::first_telling;
-use letters::{MOST_LETTERS, class_letters, letters_of};
-use masks::{Row, Table};
-use search::Word;
-use words::{Next, nothing, put_symbol, zeros};
+use crate::by_words::telling_of_length;
+use crate::pairs::PairsInLetters;
+use letters::{Letters, MOST_LETTERS, class_letters, letters_of};
+use search::{ShortWord, TwoPairsIn};
 
-// The first telling word of more than `from` letters below `base` and at most d. A word of n letters or more is on no path.
-fn telling_longer(
-    masks: &[u32],
-    follow: Row,
+// The word that `telling` finds for the first length above `from` and up to d with one. A word of n symbols or more is on no path.
+fn by_lengths<F: Fn(usize) -> Option<ShortWord>>(
     n: usize,
-    first: usize,
-    second: usize,
-    u: usize,
-    v: usize,
     from: usize,
     d: usize,
-    base: usize,
-    end: usize,
-) -> Next
-    requires { PrefixQuery masks.now follow n first second u v d base end }
-    ensures { Short result.word × NextAs
-        (first_telling_longer (letters_graph n masks.now) (pair first second) (pair u v) (range base) from (d - from)) result }
+    telling: F,
+) -> Option<ShortWord>
+    requires { (len : ℕ) → from ≤ len → len < d → F.pre telling (len + 1) }
+    ensures { FirstLength (λ len r. F.post telling len r) n from d result }
 {
-    let mut len = from;
-    while len < d {
-        len += 1;
-        if n <= len {
-            return nothing(zeros(0));
+    for len in from..d {
+        if n <= len + 1 {
+            break;
         }
-        let c = first_telling(masks, follow, n, first, second, u, v, len, base, end);
-        if c.found {
-            return c;
+        let word = telling(len + 1);
+        if word.is_some() {
+            return word;
         }
     }
-    nothing(zeros(0))
+    None
+}
+
+// The first telling word of more than `from` letters below the base and at most d.
+fn telling_longer(q: &TwoPairsIn, l: &Letters, from: usize, d: usize) -> Option<ShortWord>
+    requires long { d ≤ longest_word }
+    requires classed { l.now.base < l.now.end → Classed (table_graph q.now.graph.parties l.now.graph) l.now.base l.now.end }
+    ensures { WordAs (first_telling_longer (table_graph q.now.graph.parties l.now.graph) (own_pair q.now) (other_pair q.now)
+        (range l.now.base) from (d - from)) result }
+{
+    let pairs = PairsInLetters::new(q, l);
+    by_lengths(q.graph.parties, from, d, |len| pairs.first_telling(len))
 }
 
 // The word of the symbols for which the letters of w stand.
-fn in_symbols(symbols: [u8; MOST_LETTERS], w: Word) -> Word
-    requires { SymbolsQuery symbols w }
-    ensures { Short result × (symbols_in result ≡ in_symbols symbols (symbols_in w)) }
+fn in_symbols(symbols: &[u8; MOST_LETTERS], w: ShortWord) -> ShortWord
+    requires { SymbolsQuery symbols.now w.word }
+    ensures { symbols_in result.word ≡ in_symbols symbols.now (symbols_in w.word) }
 {
-    let len = w.len;
-    let mut r = w;
-    let mut i: usize = 0;
-    while i < len {
-        let letter = w.symbols[i] as usize;
-        r = put_symbol(r, i, symbols[letter]);
-        i += 1;
+    let mut read = w;
+    for i in 0..w.word.len {
+        read = read.put(i, symbols[w.word.symbols[i] as usize]);
     }
-    r
+    read
 }
 
 // The first telling word of more than `from` symbols and at most d: in letters if they are few enough, and else length by length.
-pub fn first_telling_word(
-    g: Table,
-    n: usize,
-    first: usize,
-    second: usize,
-    u: usize,
-    v: usize,
-    from: usize,
-    d: usize,
-) -> Next
-    requires { LengthsQuery g n first second u v d }
-    ensures { Short result.word × ((al : List ℕ) → Alphabet al n g
-        → NextAs (first_telling_longer (table_graph n g) (pair first second) (pair u v) al from (d - from)) result) }
+pub fn first_telling_word(q: &TwoPairsIn, from: usize, d: usize) -> Option<ShortWord>
+    requires { TellingQuery q.now d }
+    ensures { (al : List ℕ) → Alphabet al q.now.graph.parties q.now.graph.table
+        → WordAs (first_telling_longer (graph_of q.now.graph) (own_pair q.now) (other_pair q.now) al from (d - from)) result }
 {
-    let l = letters_of(g);
-    if !l.few {
-        return telling_by_lengths(g, class_letters(g), n, first, second, u, v, from, d);
-    }
-    let base = l.base;
-    let end = l.end;
-    let symbols = l.symbols;
-    let masks = l.masks;
-    let r = telling_longer(&masks, l.follow, n, first, second, u, v, from, d, base, end);
-    if r.found {
-        return Next {
-            found: true,
-            word: in_symbols(symbols, r.word),
-        };
-    }
-    r
+    let Some(l) = letters_of(&q.graph.table) else {
+        let l = class_letters(&q.graph.table);
+        return by_lengths(
+            q.graph.parties,
+            from,
+            d,
+            |len| telling_of_length(q, l.as_ref(), len),
+        );
+    };
+    let word = telling_longer(q, &l, from, d)?;
+    Some(in_symbols(&l.symbols, word))
 }

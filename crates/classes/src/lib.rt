@@ -4,7 +4,7 @@
 
 mod by_words;
 mod lengths;
+mod pairs;
 mod seek;
-mod table;
 
 pub use lengths::first_telling_word;

@@ -1,174 +1,101 @@
 // Telling words by prefixes: the first pair has them and the second lacks them.
-ghost use Rattle.std.specs.Prelude.{◌≡◌, ◌<◌};
-ghost use Rattle.lists.specs.Lists.{range};
-ghost use Rattle.rebac.specs.Matter.{pair};
-ghost use Rattle.rebac.specs.promises.Telling.{tells, first_telling};
-ghost use Rattle.search.specs.Word.{symbols_in};
-ghost use Rattle.search.specs.promises.WordValues.{Short};
-ghost use Rattle.words.specs.promises.Next.{NextAs};
-ghost use Rattle.letters.specs.promises.Letters.{letters_graph};
-ghost use Rattle.classes.specs.promises.Prefixes.{TellQuery, OpenQuery, SeekQuery, PrefixQuery, After, Opens, Sought};
-
-use crate::table::table_of;
-use masks::{Row, has, with};
-use search::{Word, search_pair};
+use crate::pairs::PairsInLetters;
+use masks::{has, with};
+use search::{Form, ShortWord};
 use word_test::has_word;
-use words::{Next, nothing, put_symbol, zeros};
 
-// Whether the first pair has the word and the second lacks it.
-fn tells_word(
-    masks: &[u32],
-    n: usize,
-    first: usize,
-    second: usize,
-    u: usize,
-    v: usize,
-    w: Word,
-) -> bool
-    requires { TellQuery masks.now n first second u v w }
-    ensures { result ≡ tells (letters_graph n masks.now) (pair first second) (pair u v) (symbols_in w) }
-{
-    let g = table_of(masks);
-    if has_word(g, n, first, second, w) {
-        return !has_word(g, n, u, v, w);
-    }
-    false
-}
+impl PairsInLetters {
+    ghost use Rattle.std.specs.Prelude.{◌≡◌, ◌≤◌, ◌<◌};
+    ghost use Rattle.lists.specs.Lists.{range};
+    ghost use Rattle.limits.specs.Limits.{longest_word, symbol_count};
+    ghost use Rattle.rebac.specs.promises.Telling.{tells, first_telling};
+    ghost use Rattle.search.specs.Word.{symbols_in};
+    ghost use Rattle.search.specs.promises.PairSearch.{graph_of};
+    ghost use Rattle.words.specs.promises.Next.{WordAs};
+    ghost use Rattle.letters.specs.promises.Letters.{Classed};
+    ghost use Rattle.classes.specs.promises.Prefixes.{own_pair, other_pair, SeekQuery, After, Opens, Sought};
 
-// The letters that may stand at place `at` after the one before it; at the first place all.
-fn letters_after(follow: Row, w: Word, at: usize) -> u32
-    requires { Short w × (at < w.len) }
-    ensures { After follow w at result }
-{
-    if at == 0 {
-        return 4294967295;
+    // Whether the first pair has the word and the second lacks it.
+    fn tells(&self, w: ShortWord) -> bool
+        ensures { result ≡ tells (graph_of self.now.pairs.graph) (own_pair self.now.pairs) (other_pair self.now.pairs) (symbols_in w.word) }
+    {
+        has_word(&self.pairs.own(), w) && !has_word(&self.pairs.other(), w)
     }
-    follow.masks[w.symbols[at - 1] as usize]
-}
 
-// The letters from `low` to below `high` that may stand at place `at` of a path, any letters after it. At the last place no path is sought,
-// since the whole word will be.
-fn letters_open(
-    masks: &[u32],
-    follow: Row,
-    n: usize,
-    first: usize,
-    second: usize,
-    w: Word,
-    at: usize,
-    low: usize,
-    high: usize,
-) -> u32
-    requires { OpenQuery masks.now follow n first second w at high }
-    ensures { Opens masks.now n first second w at low high result }
-{
-    let after = letters_after(follow, w, at);
-    if at + 1 == w.len {
-        return after;
+    // The letters that may stand at place `at` after the one before it; at the first place all.
+    fn letters_after(&self, w: ShortWord, at: usize) -> u32
+        requires { at < w.word.len }
+        ensures { After self.now w.word at result }
+    {
+        if at == 0 {
+            return u32::MAX;
+        }
+        self.follow.masks[w.word.symbols[at - 1] as usize]
     }
-    let g = table_of(masks);
-    let mut leads: u32 = 0;
-    let mut c = low;
-    while c < high {
-        if has(after, c as u32) {
-            let f = search_pair(g, n, first, second, put_symbol(w, at, c as u8), at + 1);
-            if f.found {
-                leads = with(leads, c as u32);
+
+    // The letters from `low` to below `high` that may stand at place `at` of a path, any letters after it. At the last place no path is
+    // sought, since the whole word will be.
+    fn letters_open(&self, w: ShortWord, at: usize, low: usize, high: usize) -> u32
+        requires place { at < w.word.len }
+        requires few { high ≤ symbol_count }
+        ensures { Opens self.now.pairs w.word at low high result }
+    {
+        let after = self.letters_after(w, at);
+        if at + 1 == w.word.len {
+            return after;
+        }
+        let own = self.pairs.own();
+        let mut leads: u32 = 0;
+        for c in low..high {
+            if has(after, c as u32) {
+                let form = Form {
+                    word: w.put(at, c as u8),
+                    fixed: at + 1,
+                };
+                if own.search(form).is_ok() {
+                    leads = with(leads, c as u32);
+                }
             }
         }
-        c += 1;
+        leads
     }
-    leads
-}
 
-// The first telling word with the places before `at` as they stand and letters from `low` to below `high` after.
-// Where there are classes for these letters, from `high` to below `end`, and no word with classes in their place tells, there is none.
-fn seek(
-    masks: &[u32],
-    follow: Row,
-    n: usize,
-    first: usize,
-    second: usize,
-    u: usize,
-    v: usize,
-    w: Word,
-    at: usize,
-    low: usize,
-    high: usize,
-    end: usize,
-) -> Next
-    requires { SeekQuery masks.now follow n first second u v w at high end }
-    ensures { Sought masks.now n first second u v w at low high result }
-{
-    if w.len <= at {
-        return Next {
-            found: tells_word(masks, n, first, second, u, v, w),
-            word: w,
-        };
-    }
-    let next = at + 1;
-    if high < end {
-        let classes = seek(masks, follow, n, first, second, u, v, w, at, high, end, end);
-        if !classes.found {
-            return nothing(w);
+    // The first telling word with the places before `at` as they stand and letters from `low` to below `high` after.
+    // Where there are classes for these letters, from `high` on, and no word with classes in their place tells, there is none.
+    // The pairs are lent, and their graph copied only where a search needs it: by value it would take 4 KB a level of this recursion.
+    fn seek(&self, w: ShortWord, at: usize, low: usize, high: usize) -> Option<ShortWord>
+        requires { SeekQuery self.now w.word at high }
+        ensures { Sought self.now.pairs w.word at low high result }
+    {
+        if w.word.len <= at {
+            if self.tells(w) {
+                return Some(w);
+            }
+            return None;
         }
-    }
-    let leads = letters_open(masks, follow, n, first, second, w, at, low, high);
-    let mut c = low;
-    while c < high {
-        if has(leads, c as u32) {
-            let r = seek(
-                masks,
-                follow,
-                n,
-                first,
-                second,
-                u,
-                v,
-                put_symbol(w, at, c as u8),
-                next,
-                low,
-                high,
-                end,
-            );
-            if r.found {
-                return r;
+        let next = at + 1;
+        if high < self.end && self.seek(w, at, high, self.end).is_none() {
+            return None;
+        }
+        let leads = self.letters_open(w, at, low, high);
+        for c in low..high {
+            if has(leads, c as u32) {
+                let word = self.seek(w.put(at, c as u8), next, low, high);
+                if word.is_some() {
+                    return word;
+                }
             }
         }
-        c += 1;
+        None
     }
-    nothing(w)
-}
 
-// The first telling word of `len` letters below `base`; those from `base` to below `end` are the classes.
-pub fn first_telling(
-    masks: &[u32],
-    follow: Row,
-    n: usize,
-    first: usize,
-    second: usize,
-    u: usize,
-    v: usize,
-    len: usize,
-    base: usize,
-    end: usize,
-) -> Next
-    requires { PrefixQuery masks.now follow n first second u v len base end }
-    ensures { Short result.word
-        × NextAs (first_telling (letters_graph n masks.now) (pair first second) (pair u v) (range base) len) result }
-{
-    seek(
-        masks,
-        follow,
-        n,
-        first,
-        second,
-        u,
-        v,
-        zeros(len),
-        0,
-        0,
-        base,
-        end,
-    )
+    // The first telling word of `len` letters below the base; the others are their classes, if there are any.
+    pub fn first_telling(&self, len: usize) -> Option<ShortWord>
+        requires long { len ≤ longest_word }
+        requires classed { self.now.base < self.now.end → Classed (graph_of self.now.pairs.graph) self.now.base self.now.end }
+        ensures { WordAs (first_telling (graph_of self.now.pairs.graph) (own_pair self.now.pairs) (other_pair self.now.pairs)
+            (range self.now.base) len) result }
+    {
+        self.seek(ShortWord::zeros(len), 0, 0, self.base)
+    }
 }

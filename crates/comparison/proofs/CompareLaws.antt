@@ -24,8 +24,8 @@ use Rattle.mining.proofs.ArchiveLaws.{parties_bounded}
 use Rattle.mining.proofs.GridLaws.{pairs_numbered, pairs_skip, pairs_take, pairs_end}
 use Rattle.comparison.specs.Compare.{only_file, only_list, differ, first_difference, side_of, comparison, compare_by, compare_in}
 use Rattle.comparison.specs.promises.Given.{Given, SomeGiven}
-use Rattle.comparison.specs.declared.call.CompareReply.{CompareReply}
-use Rattle.comparison.specs.declared.call.CompareReply.TheVariants.{Refused, Same}
+use Rattle.std.specs.Prelude.{Option, Some, None, Ok, Err}
+use Rattle.comparison.specs.declared.call.Difference.{Difference}
 
 pub given_bounded : {a : Archive} {list : List ℕ} → SomeGiven a list → a.parties ≤ 32
 given_bounded {a} w = parties_bounded w.0 a w.1.1.shows
@@ -73,16 +73,16 @@ module _ (M : Matter) (l : List (List Word)) (a : Archive) (list : List ℕ) (h 
         (λ t. d ∙ ap (first_by (differ M l)) (pairs_skip a.parties k bounded t))
 
     pub left_found : (is_pair_at a.parties k && differ M l (pair_at k)) ≡ true
-        → comparison M l ≡ side_of (test_bit (mask_in a.permits (k / 32)) (k % 32)) (pair_at k)
+        → comparison M l ≡ Some (side_of (test_bit (mask_in a.permits (k / 32)) (k % 32)) (pair_at k))
     unfolding first_by comparison
     left_found e =
         let t = and_left (is_pair_at a.parties k) _ e in
         let y = and_right (is_pair_at a.parties k) _ e in
         let f : first_difference M l ≡ some (pair_at k) =
         d ∙ ap (first_by (differ M l)) (pairs_take a.parties k bounded t) ∙ rw (y, first_by) refl in
-        rw f (ap (λ (b : Bool). side_of b (pair_at k)) (sym (bit_permitted k)))
+        rw f (ap (λ (b : Bool). Some (side_of b (pair_at k))) (sym (bit_permitted k)))
 
-  pub left_none : (k : ℕ) → 32 * a.parties ≤ k → Left k → comparison M l ≡ Same
+  pub left_none : (k : ℕ) → 32 * a.parties ≤ k → Left k → comparison M l ≡ None
   unfolding first_by comparison
   left_none k far d = let f : first_difference M l ≡ none = d ∙ ap (first_by (differ M l)) (pairs_end a.parties k far) in rw f
 
@@ -92,14 +92,14 @@ module _ (M : Matter) (a : Archive) (h : Shows M a) (list : List ℕ) where
   unfolding compare_in
   in_archive = rw (← h.labels, ← h.language, ← h.longest)
 
-  pub no_list : is_some (archive_list a list) ≡ false → compare_in M list ≡ Refused RuleList
+  pub no_list : is_some (archive_list a list) ≡ false → compare_in M list ≡ Err RuleList
   no_list e = in_archive ∙ rw (none_of (archive_list a list) e)
 
   module _ (bytes : Bytes list) (e : is_some (archive_list a list) ≡ true) where
     pub checked_given : SomeGiven a list
     checked_given = let k = checked M a h list bytes e in (M, (k.listed, record { shows = h; listed = k.is }))
 
-    pub the_answer : (r : CompareReply) → ((l : List (List Word)) → Given M l a list → r ≡ comparison M l) → compare_in M list ≡ r
+    pub the_answer : (r : Option Difference) → ((l : List (List Word)) → Given M l a list → r ≡ comparison M l) → compare_in M list ≡ Ok r
     the_answer r f =
         let k = checked M a h list bytes e in
-        in_archive ∙ rw k.decodes (sym (f k.listed (record { shows = h; listed = k.is })))
+        in_archive ∙ rw k.decodes (ap Ok (sym (f k.listed (record { shows = h; listed = k.is }))))

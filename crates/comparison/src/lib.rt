@@ -3,4 +3,4 @@
 
 mod call;
 
-pub use call::{CompareReply, compare_call};
+pub use call::{Difference, compare_call};

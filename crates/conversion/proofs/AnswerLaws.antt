@@ -18,7 +18,6 @@ use Rattle.rebac.specs.Verdict.{convertible, verdict, is_convertible}
 use Rattle.rebac.specs.Mining.{mine}
 use Rattle.rebac.specs.Existence.{problem_of, verdict_of, mined_list, permits_pair}
 use Rattle.rebac.proofs.Conversion.{permits_one, mined_ones}
-use Rattle.house_layout.specs.declared.reply.Check.TheVariants as check
 use Rattle.house_layout.specs.declared.reply.Refusal.TheVariants.{Length, Field, Link, Again, Unreached, Owner, Target, Kind, Repeat}
 use Rattle.house_layout.specs.declared.reply.Refusal.TheVariants.{RuleList, PartyPair, GivenWord, Scratch, Inconvertible, Output}
 use Rattle.house_file.specs.Check.{check_of}
@@ -30,13 +29,19 @@ use Rattle.graph.specs.Legal.{is_pair}
 use Rattle.mining.specs.promises.Building.{problem_in}
 use Rattle.mining.specs.promises.Taking.{PairMarks}
 use Rattle.mining.specs.declared.build.Pair.{Pair as PairValue}
+use Rattle.mining.specs.declared.build.Obstacle.{Obstacle}
+use Rattle.mining.specs.declared.build.Obstacle.TheVariants as obstacle
+use Rattle.lists.proofs.Cases.{clash}
+use Rattle.conversion.specs.declared.verdict.Verdict.{Verdict as VerdictValue}
 use Rattle.mining.proofs.ArchiveLaws.{problem_shown}
 use Rattle.conversion.specs.Calls.{list_of, bytes_of, verdict_reply, verdict_in, table_of, refuses, mining_in, mining_scratch, Mined}
-use Rattle.conversion.specs.promises.Passes.{archive_bytes, archive_verdict, row_bytes, ListWritten}
-use Rattle.conversion.specs.declared.mine.MiningReply.TheVariants as mined
-use Rattle.conversion.specs.declared.verdict.VerdictReply.TheVariants.{Refused, Convertible, NoWord, Rival}
+use Rattle.conversion.specs.promises.Passes.{archive_bytes, archive_verdict, verdict_by, row_bytes, ListWritten, JudgedAs}
+use Rattle.std.specs.Prelude.{Result, Ok, Err, IsOk}
+use Rattle.conversion.specs.declared.verdict.Judged.{Judged}
+use Rattle.conversion.specs.declared.verdict.Hindered.{Hindered}
+use Rattle.conversion.specs.declared.verdict.Verdict.TheVariants.{Convertible}
 use Rattle.conversion.proofs.TableLaws.{clear_bytes, marks_bytes}
-use Rattle.conversion.proofs.ReplyLaws.{reply_convertible, reply_no_word, reply_rival, reply_refused}
+use Rattle.conversion.proofs.ReplyLaws.{reply_convertible, reply_no_word, reply_rival}
 
 module _ {M : Matter} {a : Archive} (h : Shows M a) where
   pub bytes_shown : archive_bytes a ≡ bytes_of M
@@ -61,7 +66,7 @@ module _ {M : Matter} {a : Archive} (h : Shows M a) where
 
   -- what mining gives for this scratch and output, by the outcome of its tests
   module _ (scratch output : List ℕ) where
-    pub mined_scratch : length scratch < 1024 → Mined (mining_in M) (mined.Refused Scratch) scratch scratch output output
+    pub mined_scratch : length scratch < 1024 → Mined (mining_in M) (Err Scratch) scratch scratch output output
     unfolding mining_in
     mined_scratch e = rw (lt-leb 1024 (length scratch) e) (refl, (refl, refl))
 
@@ -70,21 +75,19 @@ module _ {M : Matter} {a : Archive} (h : Shows M a) where
       enough_scratch = le-leb 1024 (length scratch) s
 
       inconvertible : is_convertible (problem_of M) (verdict_of M) ≡ false
-          → Mined (mining_in M) (mined.Refused Inconvertible) scratch scratch output output
+          → Mined (mining_in M) (Err Inconvertible) scratch scratch output output
       unfolding mining_in
       inconvertible e = rw (enough_scratch, e) (refl, (refl, refl))
 
-      pub mined_no_word : {p : PairValue} → NoWord p ≡ archive_verdict a
-          → Mined (mining_in M) (mined.Refused Inconvertible) scratch scratch output output
+      pub mined_hindered : (p : PairValue) (o : Obstacle) → Ok (verdict_by p o) ≡ archive_verdict a
+          → Mined (mining_in M) (Err Inconvertible) scratch scratch output output
       unfolding verdict_in
-      mined_no_word {p} e = inconvertible (rw (reply_no_word (length (bytes_of M)) p (verdict_of M) (sym (e ∙ verdict_shown))) refl)
+      mined_hindered p obstacle.NoWord e =
+          inconvertible (rw (reply_no_word (length (bytes_of M)) p (verdict_of M) (sym (e ∙ verdict_shown))) refl)
+      mined_hindered p (obstacle.Rival q) e =
+          inconvertible (rw (reply_rival (length (bytes_of M)) p q (verdict_of M) (sym (e ∙ verdict_shown))) refl)
 
-      pub mined_rival : {p q : PairValue} → Rival p q ≡ archive_verdict a
-          → Mined (mining_in M) (mined.Refused Inconvertible) scratch scratch output output
-      unfolding verdict_in
-      mined_rival {p} {q} e = inconvertible (rw (reply_rival (length (bytes_of M)) p q (verdict_of M) (sym (e ∙ verdict_shown))) refl)
-
-      module _ {size : ℕ} (e : Convertible size ≡ archive_verdict a) where
+      module _ {size : ℕ} (e : Ok (Convertible size) ≡ archive_verdict a) where
         told : (verdict_of M ≡ convertible) × (length (bytes_of M) ≡ size)
         unfolding verdict_in
         told = reply_convertible (length (bytes_of M)) size (verdict_of M) (sym (e ∙ verdict_shown))
@@ -92,7 +95,7 @@ module _ {M : Matter} {a : Archive} (h : Shows M a) where
         -- the table of no marks, where the output is too short
         pub mined_short : length output < size → (r : Row) → ((v : ℕ) → mask_in r v ≡ 0)
             → (scratchAfter : List ℕ) → scratchAfter ≡ row_bytes r ++ drop 1024 scratch
-            → Mined (mining_in M) (mined.Refused Output) scratch scratchAfter output output
+            → Mined (mining_in M) (Err Output) scratch scratchAfter output output
         unfolding mining_in
         mined_short o r z new q =
             rw (enough_scratch, told.0, lt-leb (length (bytes_of M)) (length output) (rw (← told.1) at o))
@@ -101,11 +104,11 @@ module _ {M : Matter} {a : Archive} (h : Shows M a) where
         -- the list, and the table of its marks
         pub mined_writes : size ≤ length output → (r : Row) (scratchAfter outputAfter : List ℕ)
             → ListWritten a output outputAfter r → scratchAfter ≡ row_bytes r ++ drop 1024 scratch
-            → Mined (mining_in M) (mined.Wrote size) scratch scratchAfter output outputAfter
+            → Mined (mining_in M) (Ok size) scratch scratchAfter output outputAfter
         unfolding mining_in
         mined_writes o r new list w q =
             rw (enough_scratch, told.0, le-leb (length (bytes_of M)) (length output) (rw (← told.1) at o)) (
-              ap mined.Wrote (sym told.1),
+              ap Ok (sym told.1),
               (
                 q ∙ ap (λ (l : List ℕ). l ++ drop 1024 scratch) (table_shown r w.marks),
                 w.bytes ∙ ap (λ (l : List ℕ). l ++ drop (length l) output) bytes_shown,
@@ -113,7 +116,7 @@ module _ {M : Matter} {a : Archive} (h : Shows M a) where
             )
 
 -- the length of a convertible archive's list, and the list as it stands in a slice
-module _ (a : Archive) {size : ℕ} (e : Convertible size ≡ archive_verdict a) where
+module _ (a : Archive) {size : ℕ} (e : Ok (Convertible size) ≡ archive_verdict a) where
   pub list_size : length (archive_bytes a) ≡ size
   unfolding archive_verdict
   list_size = (reply_convertible (length (archive_bytes a)) size (verdict (problem_in a)) (sym e)).1
@@ -129,10 +132,16 @@ module _ (a : Archive) {size : ℕ} (e : Convertible size ≡ archive_verdict a)
         let rest : List ℕ = drop (length (archive_bytes a)) old in
         ap (take size) w.bytes ∙ take_at (archive_bytes a) rest size list_size
 
--- no verdict of an archive is a refusal
-pub never_refused : {G : Type 0} (a : Archive) {x : Refusal} → Refused x ≡ archive_verdict a → G
-unfolding archive_verdict
-never_refused a {x} e = reply_refused (length (archive_bytes a)) x (verdict (problem_in a)) (sym e)
+-- a convertible archive's verdict names no pair in the way
+pub never_hindered : {G : Type 0} {v : Result VerdictValue Refusal} {size : ℕ} (p : PairValue) (o : Obstacle)
+    → Ok (verdict_by p o) ≡ v → Ok (Convertible size) ≡ v → G
+never_hindered p obstacle.NoWord e c = clash (cc (e ∙ sym c))
+never_hindered p (obstacle.Rival q) e c = clash (cc (e ∙ sym c))
+
+pub judged_ok : (a : Archive) (limit : ℕ) (old new : List ℕ) {size : ℕ} (r : Result Judged Hindered)
+    → Ok (Convertible size) ≡ archive_verdict a → JudgedAs a limit old new r → IsOk r
+judged_ok a limit old new (Ok j) v h = refl
+judged_ok a limit old new (Err h) v k = never_hindered h.pair h.obstacle k v
 
 -- scratch is kept at a refusal that comes from a file: those are 1 to 8 and 15
 no_file : {G : Type 0} (n : ℕ) → 8 < n → n < 15 → (n ≤ 8) ⊎ (n ≡ 15) → G
@@ -155,5 +164,5 @@ kept_at Inconvertible h old = no_file 13 (omega arith) (omega arith) h
 kept_at Output h old = no_file 14 (omega arith) (omega arith) h
 kept_at Owner h old = refl
 
-pub file_keeps : (f : List ℕ) (x : Refusal) → check_of f ≡ check.Refused x → (old : List ℕ) → mining_scratch (refuses x) old ≡ old
+pub file_keeps : (f : List ℕ) (x : Refusal) → check_of f ≡ Err x → (old : List ℕ) → mining_scratch (refuses x) old ≡ old
 file_keeps f x e old = kept_at x (file_refusals f x e) old

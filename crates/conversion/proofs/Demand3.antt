@@ -7,6 +7,7 @@ use mathlib.Core.List.Memᴰ
 use mathlib.Core.List.{List, ◌∷◌, ◌++◌, Memᴰ}
 use Prim.Native.Nat.{ℕ, ◌+◌, ◌*◌, ◌/◌, ◌%◌, ◌≤◌, ◌<◌}
 use native.Mathlib.Omega.{arith}
+use Rattle.std.specs.Prelude.{Some, Ok, Err}
 use lib.ListN.{length, drop, get_or, get_or-append}
 use borrow.Author.Tests.{leb-true, le-leb, lt-leb, not-true}
 use Rattle.lists.specs.Lists.{up_from, range}
@@ -31,7 +32,6 @@ use Rattle.rebac.proofs.VerdictLaws.{judge_word, judge_no_rival, NoWord, Rivalle
 use Rattle.rebac.proofs.Conversion.{score_has, score_one, word_in, word_out, mined_words, mined_terms_bounded, mined_items_bounded}
 use Rattle.rebac.proofs.Conversion.{no_word_verdict, rival_verdict, convertible_iff, mined_converts}
 use Rattle.house_file.specs.Check.{check_of}
-use Rattle.house_layout.specs.declared.reply.Check.TheVariants.{Accepted}
 use Rattle.house_layout.specs.declared.reply.Refusal.{Refusal}
 use Rattle.graph.specs.FileMatter.{matter_of, Limits}
 use Rattle.graph.specs.Legal.{is_pair}
@@ -39,7 +39,6 @@ use Rattle.graph.proofs.LoadLaws.{accepted_limits}
 use Rattle.graph.proofs.LegalLaws.{pair_of, pair_is}
 use Rattle.paths.specs.Calls.{path_call, found, writes, nothing}
 use Rattle.search.specs.declared.word.Word.{Word as WordValue}
-use Rattle.paths.specs.declared.call.WordReply.TheVariants.{Wrote as WrotePath}
 use Rattle.paths.proofs.CallLaws.{path_answer}
 use Rattle.paths.proofs.HandOutLaws.{value_legal}
 use Rattle.search.specs.promises.WordValues.{word_of, IsValue}
@@ -47,16 +46,16 @@ use Rattle.search.specs.Word.{Carries}
 use Rattle.search.proofs.ValueLaws.{value_carries, value_is}
 use Rattle.rules.specs.Permit.{permit_call, yes_or_no}
 use Rattle.rules.proofs.MatterLists.{permit_of_mined}
+use Rattle.mining.specs.Values.{pair_in}
 use Rattle.mining.specs.declared.build.Pair.{Pair as PairValue}
-use Rattle.conversion.specs.declared.verdict.VerdictReply.TheVariants as reply
+use Rattle.conversion.specs.declared.verdict.Verdict.TheVariants as reply
 use Rattle.conversion.specs.Calls.{list_of, bytes_of, verdict_reply, verdict_in, verdict_call, one_if, table_of}
 use Rattle.conversion.specs.Calls.{mining_in, mining_call, too_short, writes as writesList}
-use Rattle.conversion.specs.declared.mine.MiningReply.TheVariants.{Wrote}
 use Rattle.conversion.proofs.SizeLaws.{term_bound, list_bound}
 use Rattle.conversion.proofs.ReplyLaws.{reply_convertible, reply_no_word, reply_rival, reply_refused}
 use Rattle.house_layout.proofs.RecordLaws.{by_check}
 use Rattle.lists.proofs.Pieces.{get_or_map, up_at}
-use Rattle.conversion.specs.Demands.{pair_in, Wordless, IsRival, Hinders, FirstPair, ShowsPath, MinesList}
+use Rattle.conversion.specs.Demands.{Wordless, IsRival, Hinders, FirstPair, ShowsPath, MinesList}
 
 -- a matter's words and rivals, from the statements to the tests
 module _ (M : Matter) where
@@ -162,12 +161,12 @@ bytes_bound M k =
     rw i.2 (omega (arith, (mined_words M s.0 s.1 i.0 i.1).short, k.longest.1)))))
 
 -- only an accepted file is convertible
-pub convertible_accepted : (f : List ℕ) (k : ℕ) → verdict_call f ≡ reply.Convertible k → check_of f ≡ Accepted
+pub convertible_accepted : (f : List ℕ) (k : ℕ) → verdict_call f ≡ Ok (reply.Convertible k) → check_of f ≡ Ok tt
 unfolding verdict_call
 convertible_accepted f k v = by_check (check_of f) (λ e. e) (λ x e. clash (cc (rw e at v)))
 
 -- Demand 3, for every accepted file
-module _ (f : List ℕ) (e : check_of f ≡ Accepted) where
+module _ (f : List ℕ) (e : check_of f ≡ Ok tt) where
   -- the file's matter
   abbrev M : Matter
   M = matter_of f
@@ -177,7 +176,7 @@ module _ (f : List ℕ) (e : check_of f ≡ Accepted) where
   call_in = rw e
 
   -- the verdict behind the reply
-  pub convertible_verdict : (k : ℕ) → verdict_call f ≡ reply.Convertible k
+  pub convertible_verdict : (k : ℕ) → verdict_call f ≡ Ok (reply.Convertible k)
       → (verdict_of M ≡ convertible) × (length (bytes_of M) ≡ k)
   convertible_verdict k v = reply_convertible (length (bytes_of M)) k (verdict_of M) (sym call_in ∙ v)
 
@@ -185,14 +184,14 @@ module _ (f : List ℕ) (e : check_of f ≡ Accepted) where
   small {p} h = let n = (accepted_limits f e).parties.1 in (omega (arith, h.first), omega (arith, h.second))
 
   -- an accepted file is never refused a verdict
-  pub verdict_given : (x : Refusal) → verdict_call f ≡ reply.Refused x → ⊥
+  pub verdict_given : (x : Refusal) → verdict_call f ≡ Err x → ⊥
   verdict_given x q = reply_refused (length (bytes_of M)) x (verdict_of M) (sym call_in ∙ q)
 
   -- convertible exactly where a rule list exists: any list at all with words of at most D symbols makes it so,
   -- and where it is so there is one of the language's own words
   pub verdict_exact :
-      (((r : List (List Word)) × ConvertsAny M r) → (k : ℕ) × (verdict_call f ≡ reply.Convertible k))
-      × (((k : ℕ) × (verdict_call f ≡ reply.Convertible k)) → (r : List (List Word)) × Converts M r)
+      (((r : List (List Word)) × ConvertsAny M r) → (k : ℕ) × (verdict_call f ≡ Ok (reply.Convertible k)))
+      × (((k : ℕ) × (verdict_call f ≡ Ok (reply.Convertible k))) → (r : List (List Word)) × Converts M r)
   verdict_exact = (
     λ x. (length (bytes_of M), call_in ∙ rw (any_list_verdict M x.0 x.1)),
     λ x. (convertible_iff M refl).0 (convertible_verdict x.0 x.1).0,
@@ -228,18 +227,18 @@ module _ (f : List ℕ) (e : check_of f ≡ Accepted) where
             subst (λ (y : List ℕ). (y ≡ p.first ∷ other) ⊎ (lex_less y (p.first ∷ other) ≡ true)) z
             (least_is_least (enlarged M) p v n other (rw c.symbols at o));
         answer = a;
-        reply = rw a (ap WrotePath s);
+        reply = rw a (ap (λ (i : ℕ). Ok (Some i)) s);
         written = rw a (ap (λ (i : ℕ). (p.first ∷ r.0) ++ drop i output) s);
       })
 
   -- not convertible, no word: the first permitted pair that has no word or has a rival; it has none,
   -- and the path call says so for every word
-  pub no_word_exact : (x : PairValue) → verdict_call f ≡ reply.NoWord x
+  pub no_word_exact : (x : PairValue) → verdict_call f ≡ Ok (reply.NoWord x)
       → FirstPair M (Hinders M) (pair_in x) × Wordless M (pair_in x)
   no_word_exact x v =
       no_word_first M (pair_in x) (reply_no_word (length (bytes_of M)) x (verdict_of M) (sym call_in ∙ v))
 
-  pub no_word_nothing : (x : PairValue) → verdict_call f ≡ reply.NoWord x → (v : Word) → MatterWord M v
+  pub no_word_nothing : (x : PairValue) → verdict_call f ≡ Ok (reply.NoWord x) → (v : Word) → MatterWord M v
       → (w : WordValue) → Carries w v → (size : ℕ) → w.len + 1 ≤ size → path_call f x.first x.second w size ≡ nothing
   no_word_nothing x t v m w c size k =
       let r = no_word_exact x t in
@@ -249,14 +248,14 @@ module _ (f : List ℕ) (e : check_of f ≡ Accepted) where
       path_call_lem (pair_in x) r.0.is_pair v m w c size k ∙ rw ((least_none (enlarged M) (pair_in x) v).1 n)
 
   -- not convertible, a rival: the same pair, its first rival, and at every word of the pair the path call shows a path for both
-  pub rival_exact : (x y : PairValue) → verdict_call f ≡ reply.Rival x y
+  pub rival_exact : (x y : PairValue) → verdict_call f ≡ Ok (reply.Rival x y)
       → FirstPair M (Hinders M) (pair_in x) × FirstPair M (IsRival M (pair_in x)) (pair_in y)
   rival_exact x y v =
       rival_first M (pair_in x) (pair_in y)
       (reply_rival (length (bytes_of M)) x y (verdict_of M) (sym call_in ∙ v))
 
   pub rival_shown :
-      (x y : PairValue) → verdict_call f ≡ reply.Rival x y → (v : Word) → HasWord M (pair_in x) v → (w : WordValue) → Carries w v
+      (x y : PairValue) → verdict_call f ≡ Ok (reply.Rival x y) → (v : Word) → HasWord M (pair_in x) v → (w : WordValue) → Carries w v
       → (output : List ℕ) → 32 ≤ length output → ShowsPath f (pair_in x) w output × ShowsPath f (pair_in y) w output
   rival_shown x y t v h w c output k =
       let r = rival_exact x y t in
@@ -294,7 +293,7 @@ module _ (f : List ℕ) (e : check_of f ≡ Accepted) where
 
   -- convertible: mining with scratch and output enough writes the list of that length,
   -- and permit on it and scratch give back the permit table
-  pub mining_exact : (k : ℕ) → verdict_call f ≡ reply.Convertible k → (scratch output : List ℕ) → 1024 ≤ length scratch → k ≤ length output
+  pub mining_exact : (k : ℕ) → verdict_call f ≡ Ok (reply.Convertible k) → (scratch output : List ℕ) → 1024 ≤ length scratch → k ≤ length output
       → MinesList f k scratch output
   unfolding mining_call mining_in
   mining_exact k v scratch output s o =
@@ -304,7 +303,7 @@ module _ (f : List ℕ) (e : check_of f ≡ Accepted) where
       rw (e, le-leb 1024 (length scratch) s, r.0, le-leb (length (bytes_of M)) (length output) (omega arith)) in
       record {
         answer = a;
-        reply = rw a (ap Wrote z);
+        reply = rw a (ap Ok z);
         size = z;
         written = rw a (ap (λ (i : ℕ). bytes_of M ++ drop i output) z);
         permits = λ i j p. permits_back i j r.0 p;
@@ -314,18 +313,18 @@ module _ (f : List ℕ) (e : check_of f ≡ Accepted) where
       }
 
   -- the numbers in a reply: a length that an output can have, and parties below 32
-  pub length_bound : (k : ℕ) → verdict_call f ≡ reply.Convertible k → k ≤ 2 + 992 * 31778
+  pub length_bound : (k : ℕ) → verdict_call f ≡ Ok (reply.Convertible k) → k ≤ 2 + 992 * 31778
   length_bound k v = rw (← (convertible_verdict k v).1) (bytes_bound M (accepted_limits f e))
 
-  pub no_word_parties : (x : PairValue) → verdict_call f ≡ reply.NoWord x → (x.first < 32) × (x.second < 32)
+  pub no_word_parties : (x : PairValue) → verdict_call f ≡ Ok (reply.NoWord x) → (x.first < 32) × (x.second < 32)
   no_word_parties x v = small (no_word_exact x v).0.is_pair
 
-  pub rival_parties : (x y : PairValue) → verdict_call f ≡ reply.Rival x y
+  pub rival_parties : (x y : PairValue) → verdict_call f ≡ Ok (reply.Rival x y)
       → ((x.first < 32) × (x.second < 32)) × ((y.first < 32) × (y.second < 32))
   rival_parties x y v = let r = rival_exact x y v in (small r.0.is_pair, small r.1.is_pair)
 
   -- an output that is too short for the list
-  pub mining_short : (k : ℕ) → verdict_call f ≡ reply.Convertible k → (scratch output : ℕ) → 1024 ≤ scratch → output < k
+  pub mining_short : (k : ℕ) → verdict_call f ≡ Ok (reply.Convertible k) → (scratch output : ℕ) → 1024 ≤ scratch → output < k
       → mining_call f scratch output ≡ too_short
   unfolding mining_call mining_in
   mining_short k v scratch output s o =

@@ -2,9 +2,10 @@
 -- the number before the terms makes the list.
 use mathlib.Core.Path.{◌≡◌, refl, sym, ap, ◌∙◌}
 use mathlib.Core.Bool.{true, false}
+use Rattle.std.specs.Prelude.{Ok, Err}
 use mathlib.Core.Logic.{⊎_elim}
 use mathlib.Core.List.{List, [], ◌∷◌, ◌++◌}
-use Prim.Native.Nat.{ℕ, ◌+◌, ◌-◌, ◌*◌, ◌≤◌, ◌<◌}
+use Prim.Native.Nat.{ℕ, ◌+◌, ◌-◌, ◌*◌, ◌≤◌, ◌<◌, min}
 use native.Mathlib.Omega.{arith}
 use lib.ListN.{length, drop, length-append}
 use Rattle.lists.specs.Lists.{flat_map}
@@ -25,13 +26,13 @@ use Rattle.mining.specs.Values.{pair_value}
 use Rattle.mining.specs.promises.Pairs.{pair_at}
 use Rattle.mining.specs.promises.Building.{problem_in, term_bytes}
 use Rattle.mining.specs.promises.Taking.{due, DueQuery, TurnAs}
-use Rattle.mining.specs.declared.take.PairTurn.{PairTurn}
-use Rattle.mining.specs.declared.build.Outcome.TheVariants.{NoWord, Rival, Term as TermTo}
+use Rattle.mining.specs.declared.take.Taken.{Taken}
+use Rattle.mining.specs.declared.build.Obstacle.{Obstacle}
+use Rattle.mining.specs.declared.build.Obstacle.TheVariants.{NoWord, Rival}
 use Rattle.mining.specs.declared.build.Pair.{Pair as PairValue}
 use Rattle.mining.proofs.TakeLaws.{TermOutcome, term_outcome}
-use Rattle.conversion.specs.promises.Passes.{archive_bytes, archive_verdict, PlaceOf, JudgeRoom, JudgedAs}
-use Rattle.conversion.specs.declared.verdict.Judged.{Judged}
-use Rattle.conversion.specs.declared.verdict.VerdictReply.TheVariants as reply
+use Rattle.conversion.specs.promises.Passes.{archive_bytes, archive_verdict, verdict_by, JudgeRoom, JudgedAs}
+use Rattle.conversion.specs.declared.verdict.Verdict.TheVariants as reply
 use Rattle.conversion.proofs.PassLaws.{Passing, DueTurn, list_with, terms_of, terms_add, list_bytes, list_length}
 use Rattle.conversion.proofs.PassLaws.{pass_start, pass_over, pass_term, pass_room, pass_end, pass_no_word, pass_rival}
 use Rattle.conversion.proofs.PassLaws.{due_query, term_fits}
@@ -62,11 +63,6 @@ pub judge_two : {a : Archive} {limit size : ℕ} → JudgeRoom a limit size → 
 unfolding archive_bytes
 judge_two {a} R = ⊎_elim (λ l. omega arith) (λ l. omega (arith, list_length (mine (problem_in a)))) R.room
 
--- a reply that is no length says nothing of the list
-pub judged_other : {a : Archive} {limit : ℕ} {old new : List ℕ} {j : Judged} → j.reply ≡ archive_verdict a
-    → ((k : ℕ) → j.reply ≡ reply.Convertible k → ⊥) → JudgedAs a limit old new j
-judged_other e n = record { reply = e; list = λ k c l. absurd (n k (e ∙ sym c)) }
-
 module _ {a : Archive} {limit : ℕ} {old out : List ℕ} {row : Row} {number size k : ℕ} (R : JudgeRoom a limit (length old))
     (J : Judging a limit old out row number size k) where
   pub judge_number : number ≤ 1024
@@ -81,9 +77,9 @@ module _ {a : Archive} {limit : ℕ} {old out : List ℕ} {row : Row} {number si
         ∙ sym (list_length J.list)
         ∙ ap (λ (r : RuleList Word). length (encode_list (plain_list r))) (pass_end J.pass past).0
 
-    end_reply : reply.Convertible size ≡ archive_verdict a
+    end_reply : Ok (reply.Convertible size) ≡ archive_verdict a
     unfolding archive_verdict
-    end_reply = rw (pass_end J.pass past).1 (ap reply.Convertible list_size)
+    end_reply = rw (pass_end J.pass past).1 (ap (λ (i : ℕ). Ok (reply.Convertible i)) list_size)
 
     end_bytes : size ≤ limit → put out 0 (u16_bytes number) ≡ archive_bytes a ++ drop (length (archive_bytes a)) old
     unfolding archive_bytes
@@ -103,14 +99,11 @@ module _ {a : Archive} {limit : ℕ} {old out : List ℕ} {row : Row} {number si
         ∙ put_first old (archive_bytes a)
 
     pub judge_end : {new : List ℕ} → new ≡ put out 0 (u16_bytes number)
-        → JudgedAs a limit old new (record { reply = reply.Convertible size; marks = row })
-    judge_end e = record {
-      reply = end_reply;
-      list = λ i c l.
-          let z : reply.Convertible i ≡ reply.Convertible size = c ∙ sym end_reply in
-          let same : i ≡ size = cc z in
-          record { bytes = e ∙ end_bytes (omega arith); marks = rw (← (pass_end J.pass past).0) J.pass.marks };
-    }
+        → JudgedAs a limit old new (Ok (record { size = size; marks = row }))
+    judge_end e = (
+      end_reply,
+      λ within. record { bytes = e ∙ end_bytes within; marks = rw (← (pass_end J.pass past).0) J.pass.marks },
+    )
 
   module _ (turn : k < 32 * a.parties) where
     pub judge_over : due a J.list k ≡ false → Judging a limit old out row number size (k + 1)
@@ -124,7 +117,7 @@ module _ {a : Archive} {limit : ℕ} {old out : List ℕ} {row : Row} {number si
     }
 
     -- a due pair, and the place of its term
-    module _ (e : due a J.list k ≡ true) {at : ℕ} (P : PlaceOf size limit at) where
+    module _ (e : due a J.list k ≡ true) {at : ℕ} (P : at ≡ min size limit) where
       abbrev D : DueTurn
       D = record {
         a = a;
@@ -141,31 +134,31 @@ module _ {a : Archive} {limit : ℕ} {old out : List ℕ} {row : Row} {number si
       term_room : at + length (term_bytes a (pair_at k)) ≤ length old
       term_room =
           ⊎_elim
-          (λ l. omega (arith, P.within, term_fits R.shown.1 (pair_at k)))
-          (λ l. omega (arith, P.before, pass_room D))
+          (λ l. omega (arith, P, term_fits R.shown.1 (pair_at k)))
+          (λ l. omega (arith, P, pass_room D))
           R.room
 
       pub judge_query : DueQuery a row k at (length out)
       judge_query = due_query D at _ (omega (arith, term_room, J.kept))
 
-      module _ (new : List ℕ) (t : PairTurn) (T : TurnAs a J.list k at out new (judge (problem_in a) (pair_at k)) t) where
-        pub judge_no_word : t.outcome ≡ NoWord → reply.NoWord (pair_value (pair_at k)) ≡ archive_verdict a
+      module _ (new : List ℕ) where
+        -- what is in its way is the verdict,
+        pub judge_hindered : (o : Obstacle) → TurnAs a J.list k at out new (judge (problem_in a) (pair_at k)) (Err o)
+            → Ok (verdict_by (pair_value (pair_at k)) o) ≡ archive_verdict a
         unfolding archive_verdict
-        judge_no_word f = rw (pass_no_word D at out new (judge (problem_in a) (pair_at k)) refl (rw f at T.outcome)) refl
+        judge_hindered NoWord T = rw (pass_no_word D at out new (judge (problem_in a) (pair_at k)) refl T) refl
+        judge_hindered (Rival r) T =
+            let q = pass_rival D at out new r (judge (problem_in a) (pair_at k)) refl T in
+            let z : Ok (reply.Rival (pair_value (pair_at k)) (pair_value q.0)) ≡ archive_verdict a = rw q.1.0 refl in
+            ap (λ (y : PairValue). Ok (reply.Rival (pair_value (pair_at k)) y)) q.1.1 ∙ z
 
-        pub judge_rival : (r : PairValue) → t.outcome ≡ Rival r → reply.Rival (pair_value (pair_at k)) r ≡ archive_verdict a
-        unfolding archive_verdict
-        judge_rival r f =
-            let q = pass_rival D at out new r (judge (problem_in a) (pair_at k)) refl (rw f at T.outcome) in
-            let z : reply.Rival (pair_value (pair_at k)) (pair_value q.0) ≡ archive_verdict a = rw q.1.0 refl in
-            ap (reply.Rival (pair_value (pair_at k))) q.1.1 ∙ z
-
-        module _ {end : ℕ} (f : t.outcome ≡ TermTo end) where
-          has_term : TermOutcome a (pair_at k) at out new (judge (problem_in a) (pair_at k)) end
-          has_term = term_outcome a (pair_at k) at out new (judge (problem_in a) (pair_at k)) end (rw f at T.outcome)
+        -- or it has its term
+        module _ (t : Taken) (T : TurnAs a J.list k at out new (judge (problem_in a) (pair_at k)) (Ok t)) where
+          has_term : TermOutcome a (pair_at k) at out new (judge (problem_in a) (pair_at k)) t.end
+          has_term = term_outcome a (pair_at k) at out new (judge (problem_in a) (pair_at k)) t.end T.0
 
           -- what a pair adds to the size is at most a term's bytes
-          pub judge_bound : (at ≤ end) × (end ≤ at + 31778)
+          pub judge_bound : (at ≤ t.end) × (t.end ≤ at + 31778)
           judge_bound =
               (omega (arith, has_term.ends), omega (arith, has_term.ends, term_fits R.shown.1 (pair_at k)))
 
@@ -177,17 +170,17 @@ module _ {a : Archive} {limit : ℕ} {old out : List ℕ} {row : Row} {number si
               let B = term_bytes a (pair_at k) in
               has_term.bytes
               ∙ ap (λ (o : List ℕ). put o at B) (J.bytes l)
-              ∙ ap (λ (i : ℕ). put (put old 2 T) i B) (P.same l ∙ J.pass.sized)
+              ∙ ap (λ (i : ℕ). put (put old 2 T) i B) (omega (arith, P, l, J.pass.sized))
               ∙ put_put old 2 T B (judge_two R)
               ∙ ap (put old 2) (sym (terms_add J.list (term_of (problem_in a) (pair_at k))))
 
-          pub judge_term : Judging a limit old new t.marks (number + 1) (size + (end - at)) (k + 1)
+          pub judge_term : Judging a limit old new t.marks (number + 1) (size + (t.end - at)) (k + 1)
           judge_term =
-              let z : end - at ≡ length (term_bytes a (pair_at k)) = omega (arith, has_term.ends) in
+              let z : t.end - at ≡ length (term_bytes a (pair_at k)) = omega (arith, has_term.ends) in
               rw z (record {
                 place = omega arith;
                 list = list_with D;
-                pass = pass_term D has_term.verdict t.marks (T.marks has_term.verdict);
+                pass = pass_term D has_term.verdict t.marks T.1;
                 kept =
                     ap length has_term.bytes
                     ∙ put_length out at (term_bytes a (pair_at k)) (omega (arith, term_room, J.kept))

@@ -1,4 +1,5 @@
 pub mod TableLaws
+pub mod MappedLaws
 pub mod SizeLaws
 pub mod PassLaws
 pub mod JudgeLaws

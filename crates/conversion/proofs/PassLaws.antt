@@ -3,6 +3,7 @@ use mathlib.Core.Path.{◌≡◌, refl, sym, ap, ◌∙◌}
 use mathlib.Core.Bool.{true, false, not, ◌&&◌}
 use mathlib.Core.List.{List, [], ◌∷◌, ◌++◌}
 use mathlib.Core.Option.{Option, none, some}
+use Rattle.std.specs.Prelude.{Err}
 use Prim.Native.Nat.{ℕ, ◌+◌, ◌*◌, ◌≤◌, ◌<◌}
 use native.Mathlib.Omega.{arith}
 use lib.ListN.{length, length-append}
@@ -33,7 +34,7 @@ use Rattle.mining.specs.promises.Pairs.{pair_at, is_pair_at, pairs_from}
 use Rattle.mining.specs.promises.Building.{problem_in, encoded_term, term_bytes, OutcomeAs}
 use Rattle.mining.specs.Values.{pair_value}
 use Rattle.mining.specs.promises.Taking.{PairMarks, due, DueQuery}
-use Rattle.mining.specs.declared.build.Outcome.TheVariants.{NoWord, Rival}
+use Rattle.mining.specs.declared.build.Obstacle.TheVariants.{NoWord, Rival}
 use Rattle.mining.specs.declared.build.Pair.{Pair as PairValue}
 use Rattle.mining.proofs.GridLaws.{pairs_numbered, pairs_skip, pairs_take, pairs_end}
 use Rattle.mining.proofs.ArchiveLaws.{problem_pairs, words_bounded, owned_fits}
@@ -266,13 +267,13 @@ module _ (D : DueTurn) where
   stops (rivalled x q) d j = sym (rw j at onward)
 
   module _ (at : ℕ) (old new : List ℕ) where
-    pub pass_no_word : (v : Verdict Pair) → judge S own_pair ≡ v → OutcomeAs D.a own_pair at old new v NoWord
+    pub pass_no_word : (v : Verdict Pair) → judge S own_pair ≡ v → OutcomeAs D.a own_pair at old new v (Err NoWord)
         → verdict S ≡ no_word own_pair
     pass_no_word convertible j o = clash (cc o.0)
     pass_no_word (no_word x) j o = stops (no_word x) (λ q. clash (cc q)) j ∙ ap no_word (own_no_word S own_pair j)
     pass_no_word (rivalled x q) j o = clash (cc o)
 
-    pub pass_rival : (r : PairValue) (v : Verdict Pair) → judge S own_pair ≡ v → OutcomeAs D.a own_pair at old new v (Rival r)
+    pub pass_rival : (r : PairValue) (v : Verdict Pair) → judge S own_pair ≡ v → OutcomeAs D.a own_pair at old new v (Err (Rival r))
         → (q : Pair) × ((verdict S ≡ rivalled own_pair q) × (r ≡ pair_value q))
     pass_rival r convertible j o = clash (cc o.0)
     pass_rival r (no_word x) j o = clash (cc o)

@@ -1,5 +1,5 @@
 -- The verdict and mining calls (01, "The calls"): what each answers and writes, for any bytes and buffers.
-use Rattle.std.specs.Prelude.{ℕ, ◌/◌, ◌%◌, ◌≡◌, Bool, true, false, ◌&&◌, List, [], ◌∷◌, ◌++◌, map, length, drop, replicate, leb}
+use Rattle.std.specs.Prelude.{ℕ, ◌/◌, ◌%◌, ◌≡◌, Bool, true, false, ◌&&◌, List, [], ◌∷◌, ◌++◌, map, length, drop, replicate, leb, Result, Ok, Err}
 use Rattle.lists.specs.Lists.{range}
 use Rattle.limits.specs.Limits.{most_parties, pair_numbers, scratch_size}
 use Rattle.rebac.specs.Matter.{Matter, Pair, pair}
@@ -12,10 +12,8 @@ use Rattle.graph.specs.Legal.{is_pair}
 use Rattle.graph.specs.Refusals.{unless, over_matter}
 use Rattle.rule_bytes.specs.ListBytes.{encode_list}
 use Rattle.mining.specs.Values.{pair_value}
-use Rattle.conversion.specs.declared.verdict.VerdictReply.{VerdictReply}
-use Rattle.conversion.specs.declared.verdict.VerdictReply.TheVariants as reply
-use Rattle.conversion.specs.declared.mine.MiningReply.{MiningReply}
-use Rattle.conversion.specs.declared.mine.MiningReply.TheVariants.{Refused, Wrote}
+use Rattle.conversion.specs.declared.verdict.Verdict.{Verdict as VerdictValue}
+use Rattle.conversion.specs.declared.verdict.Verdict.TheVariants as reply
 
 -- the list that mining writes, and its bytes
 unfoldable pub list_of : Matter → List (List (List ℕ))
@@ -26,23 +24,23 @@ bytes_of M = encode_list (list_of M)
 
 -- Verdict: "convertible, with the length in bytes of the list that mining writes; or not convertible, with a pair",
 -- and "no word" or the rival
-abbrev pub verdict_reply : ℕ → Verdict Pair → VerdictReply
-verdict_reply size convertible = reply.Convertible size
-verdict_reply size (no_word p) = reply.NoWord (pair_value p)
-verdict_reply size (rivalled p q) = reply.Rival (pair_value p) (pair_value q)
+abbrev pub verdict_reply : ℕ → Verdict Pair → Result VerdictValue Refusal
+verdict_reply size convertible = Ok (reply.Convertible size)
+verdict_reply size (no_word p) = Ok (reply.NoWord (pair_value p))
+verdict_reply size (rivalled p q) = Ok (reply.Rival (pair_value p) (pair_value q))
 
 -- the reply in 01's number and values: the length; the pair; the pair and its rival
-abbrev pub said_verdict : VerdictReply → Said
-said_verdict (reply.Refused x) = refusal (number_of x)
-said_verdict (reply.Convertible k) = values (k ∷ [])
-said_verdict (reply.NoWord p) = values (p.first ∷ p.second ∷ [])
-said_verdict (reply.Rival p q) = values (p.first ∷ p.second ∷ q.first ∷ q.second ∷ [])
+abbrev pub said_verdict : Result VerdictValue Refusal → Said
+said_verdict (Err x) = refusal (number_of x)
+said_verdict (Ok (reply.Convertible k)) = values (k ∷ [])
+said_verdict (Ok (reply.NoWord p)) = values (p.first ∷ p.second ∷ [])
+said_verdict (Ok (reply.Rival p q)) = values (p.first ∷ p.second ∷ q.first ∷ q.second ∷ [])
 
-unfoldable pub verdict_in : Matter → VerdictReply
+unfoldable pub verdict_in : Matter → Result VerdictValue Refusal
 verdict_in M = verdict_reply (length (bytes_of M)) (verdict_of M)
 
-unfoldable pub verdict_call : List ℕ → VerdictReply
-verdict_call f = over_matter reply.Refused f verdict_in
+unfoldable pub verdict_call : List ℕ → Result VerdictValue Refusal
+verdict_call f = over_matter Err f verdict_in
 
 -- what mining answers: a refusal, 14 apart from the others, or the table and the list that it writes
 pub data MiningAnswer : Type 0 where
@@ -81,15 +79,15 @@ unfoldable pub mining_call : List ℕ → ℕ → ℕ → MiningAnswer
 mining_call f scratch output = over_matter refuses f (λ M. mining_in M scratch output)
 
 -- "The list is written from the output's first byte and its length returned."
-abbrev pub mining_reply : MiningAnswer → MiningReply
-mining_reply (refuses x) = Refused x
-mining_reply too_short = Refused Output
-mining_reply (writes t l) = Wrote (length l)
+abbrev pub mining_reply : MiningAnswer → Result ℕ Refusal
+mining_reply (refuses x) = Err x
+mining_reply too_short = Err Output
+mining_reply (writes t l) = Ok (length l)
 
 -- the reply in 01's number and values
-abbrev pub said_mining : MiningReply → Said
-said_mining (Refused x) = refusal (number_of x)
-said_mining (Wrote k) = values (k ∷ [])
+abbrev pub said_mining : Result ℕ Refusal → Said
+said_mining (Err x) = refusal (number_of x)
+said_mining (Ok k) = values (k ∷ [])
 
 -- "Scratch keeps all bytes too, except at 14 in mining, where its first 1,024 become 0."
 abbrev pub mining_scratch : MiningAnswer → List ℕ → List ℕ
@@ -103,7 +101,7 @@ mining_output too_short old = old
 mining_output (writes t l) old = l ++ drop (length l) old
 
 -- what mining gives, with its answer by the lengths of scratch and output: the reply, and every byte of both
-abbrev pub Mined : (ℕ → ℕ → MiningAnswer) → MiningReply → List ℕ → List ℕ → List ℕ → List ℕ → Type 0
+abbrev pub Mined : (ℕ → ℕ → MiningAnswer) → Result ℕ Refusal → List ℕ → List ℕ → List ℕ → List ℕ → Type 0
 Mined answer r scratch scratchAfter output outputAfter =
     (r ≡ mining_reply (answer (length scratch) (length output)))
     × ((scratchAfter ≡ mining_scratch (answer (length scratch) (length output)) scratch)

@@ -1,5 +1,5 @@
 -- What demand 3 says of the calls' replies, in 01's words: words by their paths, pairs by pair order.
-use Rattle.std.specs.Prelude.{ℕ, ◌+◌, ◌*◌, ◌<◌, ◌≡◌, ◌⊎◌, true, false, ◌&&◌, List, ◌∷◌, ◌++◌, length, drop, get_or}
+use Rattle.std.specs.Prelude.{ℕ, ◌+◌, ◌*◌, ◌<◌, ◌≡◌, ◌⊎◌, true, false, ◌&&◌, List, ◌∷◌, ◌++◌, length, drop, get_or, Some, Ok}
 use Rattle.limits.specs.Limits.{most_parties}
 use Rattle.rebac.specs.Matter.{Matter, Pair, pair, IsPair, pair_before, permitted}
 use Rattle.rebac.specs.Words.{Word, lex_less}
@@ -11,16 +11,9 @@ use Rattle.graph.specs.Legal.{is_pair}
 use Rattle.search.specs.Word.{symbols_in}
 use Rattle.paths.specs.Calls.{path_call, writes, word_reply, word_output}
 use Rattle.search.specs.declared.word.Word.{Word as WordValue}
-use Rattle.paths.specs.declared.call.WordReply.TheVariants.{Wrote as WrotePath}
 use Rattle.rules.specs.Permit.{permit_call, yes_or_no}
-use Rattle.mining.specs.declared.build.Pair.{Pair as PairValue}
 use Rattle.conversion.specs.Calls.{bytes_of, table_of, one_if, mining_call, mining_reply, mining_scratch}
 use Rattle.conversion.specs.Calls.{writes as writesList, mining_output as listOutput}
-use Rattle.conversion.specs.declared.mine.MiningReply.TheVariants.{Wrote}
-
--- the pair that a reply names
-abbrev pub pair_in : PairValue → Pair
-pair_in p = pair p.first p.second
 
 abbrev pub Wordless : Matter → Pair → Type 0
 Wordless M p = (w : Word) → HasWord M p w → ⊥
@@ -58,13 +51,13 @@ module _ (f : List ℕ) where
     pub least : (other : List ℕ) → Path (enlarged M) p (symbols_in w) other
         → (p.first ∷ via ≡ p.first ∷ other) ⊎ (lex_less (p.first ∷ via) (p.first ∷ other) ≡ true)
     pub answer : path_call f p.first p.second w (length output) ≡ writes (p.first ∷ via)
-    pub reply : word_reply (path_call f p.first p.second w (length output)) ≡ WrotePath (w.len + 1)
+    pub reply : word_reply (path_call f p.first p.second w (length output)) ≡ Ok (Some (w.len + 1))
     pub written : word_output (path_call f p.first p.second w (length output)) output ≡ (p.first ∷ via) ++ drop (w.len + 1) output
 
   -- mining for a convertible file whose verdict gives the length k, lent scratch and output that are long enough
   pub record MinesList (k : ℕ) (scratch output : List ℕ) : Type 0 where
     pub answer : mining_call f (length scratch) (length output) ≡ writesList (table_of M) (bytes_of M)
-    pub reply : mining_reply (mining_call f (length scratch) (length output)) ≡ Wrote k
+    pub reply : mining_reply (mining_call f (length scratch) (length output)) ≡ Ok k
     pub size : length (bytes_of M) ≡ k
     pub written : listOutput (mining_call f (length scratch) (length output)) output ≡ bytes_of M ++ drop k output
     -- permit on the list gives back the permit table

@@ -5,5 +5,5 @@ mod mine;
 mod table;
 mod verdict;
 
-pub use mine::{MiningReply, mining_call};
-pub use verdict::{LONGEST_TERM, VerdictReply, convert, verdict_call};
+pub use mine::mining_call;
+pub use verdict::{LONGEST_TERM, Verdict, convert, verdict_call};

@@ -3,7 +3,7 @@
 use mathlib.Core.Path.{◌≡◌, sym, ◌∙◌}
 use mathlib.Core.List.{List}
 use Prim.Native.Nat.{ℕ}
-use Rattle.house_layout.specs.declared.reply.Check.TheVariants.{Accepted}
+use Rattle.std.specs.Prelude.{Ok}
 use Rattle.house_file.specs.Check.{check_of}
 use Rattle.house_file.specs.Meaning.{IsEdition}
 use Rattle.graph.specs.FileMatter.{matter_of}
@@ -36,15 +36,15 @@ same_answers f g c m = record {
 }
 
 -- two accepted files that say the same
-pub matter_answers : (f g : List ℕ) → check_of f ≡ Accepted → check_of g ≡ Accepted → SameMatter g f → AnswersAs f g
+pub matter_answers : (f g : List ℕ) → check_of f ≡ Ok tt → check_of g ≡ Ok tt → SameMatter g f → AnswersAs f g
 matter_answers f g a b s = same_answers f g (b ∙ sym a) (same_matter g f s)
 
 -- 02, Ticket 2: "Verdicts and mined lists are those of the same matter in edition 1": at e = 1
-pub edition_answers : (f : List ℕ) → check_of f ≡ Accepted → (e : ℕ) → IsEdition e → AnswersAs f (canonical_of e (matter_of f))
+pub edition_answers : (f : List ℕ) → check_of f ≡ Ok tt → (e : ℕ) → IsEdition e → AnswersAs f (canonical_of e (matter_of f))
 edition_answers f a e k =
     let c = canonical_file e k (matter_of f) (accepted_matter f a) in
     same_answers f (canonical_of e (matter_of f)) (c.accepted ∙ sym a) c.matter
 
 -- what the writer wrote for an accepted file is answered as the file
-pub copy_answers : (f c : List ℕ) → check_of f ≡ Accepted → (size : ℕ) → canonical.write_call f size ≡ canonical.writes c → AnswersAs f c
+pub copy_answers : (f c : List ℕ) → check_of f ≡ Ok tt → (size : ℕ) → canonical.write_call f size ≡ canonical.writes c → AnswersAs f c
 copy_answers f c a size e = let k = (write_copies f a size c e).file in same_answers f c (k.accepted ∙ sym a) k.matter

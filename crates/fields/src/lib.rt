@@ -6,5 +6,5 @@ mod read;
 mod write;
 
 pub use decimal::put_decimal;
-pub use read::{u16_at, wide};
+pub use read::u16_at;
 pub use write::{put_bytes, put_u16};

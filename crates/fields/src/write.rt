@@ -8,8 +8,7 @@ pub fn put_u16(out: &mut [u8], at: usize, x: usize)
     requires { (x < 65536) × (at + 2 ≤ length out.old) }
     ensures { out.new ≡ put out.old at (u16_bytes x) }
 {
-    out[at] = (x % 256) as u8;
-    out[at + 1] = (x / 256) as u8;
+    out[at..at + 2].copy_from_slice(&(x as u16).to_le_bytes());
 }
 
 // The bytes of a slice, and the place after them.
@@ -17,10 +16,7 @@ pub fn put_bytes(out: &mut [u8], at: usize, s: &[u8]) -> usize
     requires { at + length s.now ≤ length out.old }
     ensures { Wrote out.old at s.now out.new result }
 {
-    let mut i = 0;
-    while i < s.len() {
-        out[at + i] = s[i];
-        i += 1;
-    }
-    at + s.len()
+    let end = at + s.len();
+    out[at..end].copy_from_slice(s);
+    end
 }

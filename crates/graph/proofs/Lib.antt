@@ -1,4 +1,3 @@
 pub mod SymbolLaws
 pub mod LoadLaws
-pub mod CallLaws
 pub mod LegalLaws

@@ -2,6 +2,7 @@
 -- limits, and each label's bit is an edge. Assumes nothing.
 use mathlib.Core.Path.{◌≡◌, sym, ap, ◌∙◌}
 use mathlib.Core.List.{List}
+use Rattle.std.specs.Prelude.{Ok}
 use Prim.Native.Nat.{ℕ, ◌≤◌}
 use native.Mathlib.Omega.{arith}
 use borrow.Author.Tests.{lt-ltb}
@@ -14,13 +15,12 @@ use Rattle.house_file.specs.promises.Decoded.{Decoded}
 use Rattle.house_layout.specs.promises.Kinds.{bit_of}
 use Rattle.house_layout.specs.declared.header.Header.{Header}
 use Rattle.house_file.specs.declared.decode.House.{House}
-use Rattle.house_layout.specs.declared.reply.Check.TheVariants.{Accepted}
 use Rattle.house_layout.proofs.RecordLaws.{label_legal, bit_label}
 use Rattle.house_file.proofs.WellFormedLaws.{framing}
 use Rattle.graph.specs.FileMatter.{matter_of, Limits}
 use Rattle.graph.specs.promises.Archive.{Records}
 
-module _ (f : List ℕ) (e : check_of f ≡ Accepted) where
+module _ (f : List ℕ) (e : check_of f ≡ Ok tt) where
   pub accepted_limits : Limits (matter_of f)
   unfolding matter_of
   accepted_limits =

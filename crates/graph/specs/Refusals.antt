@@ -1,9 +1,7 @@
 -- What calls are made of, whatever their reply: a test that refuses; and the file's own refusals before the answer for its matter.
-use Rattle.std.specs.Prelude.{ℕ, Bool, true, false, List}
+use Rattle.std.specs.Prelude.{ℕ, Bool, true, false, ⊤, List, Result, Ok, Err}
 use Rattle.rebac.specs.Matter.{Matter}
 use Rattle.house_file.specs.Check.{check_of}
-use Rattle.house_layout.specs.declared.reply.Check.{Check}
-use Rattle.house_layout.specs.declared.reply.Check.TheVariants as check
 use Rattle.house_layout.specs.declared.reply.Refusal.{Refusal}
 use Rattle.graph.specs.FileMatter.{matter_of}
 
@@ -13,9 +11,9 @@ module _ {R : Type 0} (refuse : Refusal → R) where
   unless false x k = refuse x
 
   -- refused as the check refuses, or the answer
-  abbrev pub after_check : Check → R → R
-  after_check check.Accepted k = k
-  after_check (check.Refused x) k = refuse x
+  abbrev pub after_check : Result ⊤ Refusal → R → R
+  after_check (Ok _) k = k
+  after_check (Err x) k = refuse x
 
   -- a call on a file's bytes: the file's refusals come first, then the answer for its matter
   abbrev pub over_matter : List ℕ → (Matter → R) → R

@@ -1,5 +1,7 @@
 -- Different replies of a call are different numbers: the lowest byte tells the reply's kind, the others its values, each below 256.
 -- Every reply of the calls is in range.
+use Rattle.std.specs.Prelude.{Bool, true, false, Result, Ok, Err}
+use Rattle.house_layout.specs.declared.reply.Refusal.{Refusal}
 use mathlib.Core.Path.{◌≡◌, refl, ap}
 use mathlib.Core.Logic.{by_cases}
 use mathlib.Core.List.{List}
@@ -14,15 +16,11 @@ use Rattle.rebac.specs.Existence.{problem_of, verdict_of}
 use Rattle.house_file.specs.Check.{check_of}
 use Rattle.house_layout.specs.Reply.{number_of}
 use Rattle.house_layout.specs.declared.reply.Refusal.{Refusal}
-use Rattle.house_layout.specs.declared.reply.Check.TheVariants.{Accepted}
 use Rattle.graph.specs.FileMatter.{matter_of}
 use Rattle.graph.proofs.LoadLaws.{accepted_limits}
-use Rattle.rules.specs.declared.call.PermitReply.{PermitReply}
-use Rattle.rules.specs.declared.call.PermitReply.TheVariants as permit
-use Rattle.conversion.specs.declared.verdict.VerdictReply.{VerdictReply}
-use Rattle.conversion.specs.declared.verdict.VerdictReply.TheVariants as verdict
-use Rattle.conversion.specs.declared.mine.MiningReply.{MiningReply}
-use Rattle.conversion.specs.declared.mine.MiningReply.TheVariants as mining
+use Rattle.mining.specs.declared.build.Pair.{Pair}
+use Rattle.conversion.specs.declared.verdict.Verdict.{Verdict}
+use Rattle.conversion.specs.declared.verdict.Verdict.TheVariants.{Convertible, NoWord, Rival}
 use Rattle.conversion.specs.Calls.{bytes_of, verdict_call, mining_in, mining_call, mining_reply}
 use Rattle.house_layout.proofs.RefusalNumbers.{number_apart, number_small}
 use Rattle.conversion.proofs.ReplyLaws.{pair_same}
@@ -42,25 +40,25 @@ byte_apart a b x y h k e =
 refusal_below : (x : Refusal) → number_of x < first_kind
 refusal_below x = omega (arith, number_small x)
 
-pub verdict_apart : (v w : VerdictReply) → VerdictInRange v → VerdictInRange w → pack_verdict v ≡ pack_verdict w → v ≡ w
-verdict_apart (verdict.Refused x) (verdict.Refused y) r s e = ap verdict.Refused (number_apart x y e)
-verdict_apart (verdict.Refused x) (verdict.Convertible k) r s e = absurd (omega (arith, refusal_below x))
-verdict_apart (verdict.Refused x) (verdict.NoWord p) r s e = absurd (omega (arith, refusal_below x))
-verdict_apart (verdict.Refused x) (verdict.Rival p q) r s e = absurd (omega (arith, refusal_below x))
-verdict_apart (verdict.Convertible k) (verdict.Refused y) r s e = absurd (omega (arith, refusal_below y))
-verdict_apart (verdict.Convertible k) (verdict.Convertible j) r s e = let z : k ≡ j = omega arith in ap verdict.Convertible z
-verdict_apart (verdict.Convertible k) (verdict.NoWord p) r s e = absurd (omega arith)
-verdict_apart (verdict.Convertible k) (verdict.Rival p q) r s e = absurd (omega arith)
-verdict_apart (verdict.NoWord p) (verdict.Refused y) r s e = absurd (omega (arith, refusal_below y))
-verdict_apart (verdict.NoWord p) (verdict.Convertible k) r s e = absurd (omega arith)
-verdict_apart (verdict.NoWord p) (verdict.NoWord q) r s e =
+pub verdict_apart : (v w : Result Verdict Refusal) → VerdictInRange v → VerdictInRange w → pack_verdict v ≡ pack_verdict w → v ≡ w
+verdict_apart (Err x) (Err y) r s e = ap Err (number_apart x y e)
+verdict_apart (Err x) (Ok (Convertible k)) r s e = absurd (omega (arith, refusal_below x))
+verdict_apart (Err x) (Ok (NoWord p)) r s e = absurd (omega (arith, refusal_below x))
+verdict_apart (Err x) (Ok (Rival p q)) r s e = absurd (omega (arith, refusal_below x))
+verdict_apart (Ok (Convertible k)) (Err y) r s e = absurd (omega (arith, refusal_below y))
+verdict_apart (Ok (Convertible k)) (Ok (Convertible j)) r s e = let z : k ≡ j = omega arith in ap (λ (n : ℕ). Ok (Convertible n)) z
+verdict_apart (Ok (Convertible k)) (Ok (NoWord p)) r s e = absurd (omega arith)
+verdict_apart (Ok (Convertible k)) (Ok (Rival p q)) r s e = absurd (omega arith)
+verdict_apart (Ok (NoWord p)) (Err y) r s e = absurd (omega (arith, refusal_below y))
+verdict_apart (Ok (NoWord p)) (Ok (Convertible k)) r s e = absurd (omega arith)
+verdict_apart (Ok (NoWord p)) (Ok (NoWord q)) r s e =
     let a = byte_apart p.first q.first p.second q.second r.0 s.0 (omega arith) in
-    ap verdict.NoWord (pair_same p q a.0 a.1)
-verdict_apart (verdict.NoWord p) (verdict.Rival x y) r s e = absurd (omega arith)
-verdict_apart (verdict.Rival p q) (verdict.Refused y) r s e = absurd (omega (arith, refusal_below y))
-verdict_apart (verdict.Rival p q) (verdict.Convertible k) r s e = absurd (omega arith)
-verdict_apart (verdict.Rival p q) (verdict.NoWord x) r s e = absurd (omega arith)
-verdict_apart (verdict.Rival p q) (verdict.Rival x y) r s e =
+    ap (λ (x : Pair). Ok (NoWord x)) (pair_same p q a.0 a.1)
+verdict_apart (Ok (NoWord p)) (Ok (Rival x y)) r s e = absurd (omega arith)
+verdict_apart (Ok (Rival p q)) (Err y) r s e = absurd (omega (arith, refusal_below y))
+verdict_apart (Ok (Rival p q)) (Ok (Convertible k)) r s e = absurd (omega arith)
+verdict_apart (Ok (Rival p q)) (Ok (NoWord x)) r s e = absurd (omega arith)
+verdict_apart (Ok (Rival p q)) (Ok (Rival x y)) r s e =
     let u : ℕ = q.first + 256 * q.second in
     let v : ℕ = y.first + 256 * y.second in
     let a = byte_apart p.first x.first (p.second + 256 * u) (x.second + 256 * v) r.0.0 s.0.0 (omega arith) in
@@ -70,28 +68,28 @@ verdict_apart (verdict.Rival p q) (verdict.Rival x y) r s e =
     let n : q ≡ y = pair_same q y c.0 c.1 in
     rw (m, n)
 
-pub mining_apart : (v w : MiningReply) → MiningInRange v → MiningInRange w → pack_mining v ≡ pack_mining w → v ≡ w
-mining_apart (mining.Refused x) (mining.Refused y) r s e = ap mining.Refused (number_apart x y e)
-mining_apart (mining.Refused x) (mining.Wrote k) r s e = absurd (omega (arith, refusal_below x))
-mining_apart (mining.Wrote k) (mining.Refused y) r s e = absurd (omega (arith, refusal_below y))
-mining_apart (mining.Wrote k) (mining.Wrote j) r s e = let z : k ≡ j = omega arith in ap mining.Wrote z
+pub mining_apart : (v w : Result ℕ Refusal) → MiningInRange v → MiningInRange w → pack_mining v ≡ pack_mining w → v ≡ w
+mining_apart (Err x) (Err y) r s e = ap Err (number_apart x y e)
+mining_apart (Err x) (Ok k) r s e = absurd (omega (arith, refusal_below x))
+mining_apart (Ok k) (Err y) r s e = absurd (omega (arith, refusal_below y))
+mining_apart (Ok k) (Ok j) r s e = let z : k ≡ j = omega arith in ap Ok z
 
-pub permit_apart : (v w : PermitReply) → pack_permit v ≡ pack_permit w → v ≡ w
-permit_apart (permit.Refused x) (permit.Refused y) e = ap permit.Refused (number_apart x y e)
-permit_apart (permit.Refused x) permit.Yes e = absurd (omega (arith, refusal_below x))
-permit_apart (permit.Refused x) permit.No e = absurd (omega (arith, refusal_below x))
-permit_apart permit.Yes (permit.Refused y) e = absurd (omega (arith, refusal_below y))
-permit_apart permit.Yes permit.Yes e = refl
-permit_apart permit.Yes permit.No e = absurd (omega arith)
-permit_apart permit.No (permit.Refused y) e = absurd (omega (arith, refusal_below y))
-permit_apart permit.No permit.Yes e = absurd (omega arith)
-permit_apart permit.No permit.No e = refl
+pub permit_apart : (v w : Result Bool Refusal) → pack_permit v ≡ pack_permit w → v ≡ w
+permit_apart (Err x) (Err y) e = ap Err (number_apart x y e)
+permit_apart (Err x) (Ok true) e = absurd (omega (arith, refusal_below x))
+permit_apart (Err x) (Ok false) e = absurd (omega (arith, refusal_below x))
+permit_apart (Ok true) (Err y) e = absurd (omega (arith, refusal_below y))
+permit_apart (Ok true) (Ok true) e = refl
+permit_apart (Ok true) (Ok false) e = absurd (omega arith)
+permit_apart (Ok false) (Err y) e = absurd (omega (arith, refusal_below y))
+permit_apart (Ok false) (Ok true) e = absurd (omega arith)
+permit_apart (Ok false) (Ok false) e = refl
 
-accepted_range : (f : List ℕ) → check_of f ≡ Accepted → (r : VerdictReply) → verdict_call f ≡ r → VerdictInRange r
-accepted_range f e (verdict.Refused x) v = tt
-accepted_range f e (verdict.Convertible k) v = omega (arith, length_bound f e k v)
-accepted_range f e (verdict.NoWord p) v = let r = no_word_parties f e p v in (omega arith, omega arith)
-accepted_range f e (verdict.Rival p q) v = let r = rival_parties f e p q v in ((omega arith, omega arith), (omega arith, omega arith))
+accepted_range : (f : List ℕ) → check_of f ≡ Ok tt → (r : Result Verdict Refusal) → verdict_call f ≡ r → VerdictInRange r
+accepted_range f e (Err x) v = tt
+accepted_range f e (Ok (Convertible k)) v = omega (arith, length_bound f e k v)
+accepted_range f e (Ok (NoWord p)) v = let r = no_word_parties f e p v in (omega arith, omega arith)
+accepted_range f e (Ok (Rival p q)) v = let r = rival_parties f e p q v in ((omega arith, omega arith), (omega arith, omega arith))
 
 -- every reply of the calls is in range
 pub verdict_in_range : (f : List ℕ) → VerdictInRange (verdict_call f)

@@ -4,6 +4,7 @@ use mathlib.Core.Path.{◌≡◌, refl, sym, ap, ◌∙◌}
 use mathlib.Core.Bool.{Bool, true, false, not, ◌||◌}
 use mathlib.Core.List.{List, [], ◌∷◌, ◌++◌, append_assoc, append-nil}
 use mathlib.Core.Logic.{by_cases}
+use Rattle.std.specs.Prelude.{⊤, Result, Ok, Err}
 use Prim.Native.Nat.{ℕ, zero, suc, ◌-◌, ◌≤◌, ◌<◌}
 use native.Mathlib.Decide.{ℕ_discrete}
 use native.Mathlib.Omega.{arith}
@@ -26,8 +27,6 @@ use Rattle.house_file.specs.Check.{record_check, says, Followed, stopped, passed
 use Rattle.house_layout.specs.promises.Kinds.{bit_of}
 use Rattle.house_file.specs.promises.Reading.{RecordMarks, RowOf, chain_followed}
 use Rattle.house_layout.specs.declared.record.Record.{Record}
-use Rattle.house_layout.specs.declared.reply.Check.{Check}
-use Rattle.house_layout.specs.declared.reply.Check.TheVariants.{Accepted, Refused}
 use Rattle.house_layout.specs.declared.reply.Refusal.{Refusal}
 use Rattle.house_layout.specs.declared.reply.Refusal.TheVariants.{Link}
 use Rattle.house_layout.proofs.RecordLaws.{judge_same, judge_passed, Passed, bit_apart}
@@ -84,11 +83,11 @@ abbrev pub has_kind : Row → Record → Bool
 has_kind row x = test_bit (mask_in row x.target) (bit_of x.kind)
 
 -- the checks of record `at`, as the code makes them
-unfoldable pub judged : List ℕ → ℕ → List ℕ → Row → ℕ → Check
+unfoldable pub judged : List ℕ → ℕ → List ℕ → Row → ℕ → Result ⊤ Refusal
 judged f u marks row at = judge_record (parties_of f) (labels_of f) u (record_of f at) (is_marked marks at) (has_kind row (record_of f at))
 
 -- a record that passed: its tests, and one clear mark fewer
-module _ (f : List ℕ) (u : ℕ) (marks : List ℕ) (row : Row) (at : ℕ) (e : judged f u marks row at ≡ Accepted) where
+module _ (f : List ℕ) (u : ℕ) (marks : List ℕ) (row : Row) (at : ℕ) (e : judged f u marks row at ≡ Ok tt) where
   pub tests : Passed (parties_of f) (labels_of f) u (record_of f at) (is_marked marks at) (has_kind row (record_of f at))
   unfolding judged
   tests = judge_passed (parties_of f) (labels_of f) u (record_of f at) _ _ e
@@ -101,7 +100,7 @@ module _ (f : List ℕ) (u : ℕ) (marks : List ℕ) (row : Row) (at : ℕ) (e :
 
 -- following does not both stop and pass
 pub unlike : {G : Type 0} {w : Followed} {x : Refusal} {c : List ℕ} → w ≡ stopped x → w ≡ passed c → G
-unlike p q = let z : ◌≡◌ {A = ℕ} 0 1 = cc in absurd (omega arith)
+unlike p q = cc
 
 -- how far party u's chain was followed: to record `at`, with these marks and this row
 pub record Here (f : List ℕ) (u : ℕ) (before marks : List ℕ) (row : Row) (at : ℕ) : Type 0 where
@@ -152,12 +151,12 @@ module _ (f : List ℕ) (u : ℕ) (before marks : List ℕ) (row : Row) (at : �
         judge_same (parties_of f) (labels_of f) u (record_of f at) _ _ _ _ seen
         (λ t k. h.kinds (record_of f at).target (record_of f at).kind k) in
         h.same ∙ turn h.turns h.enough
-        ∙ rw (ne_eqb at 0 z, le-ltb (records_of f) at l) (ap (λ (c : Check). if_accepted c rest) (sym checks))
+        ∙ rw (ne_eqb at 0 z, le-ltb (records_of f) at l) (ap (λ (c : Result ⊤ Refusal). if_accepted c rest) (sym checks))
 
-    pub here_refused : (x : Refusal) → judged f u marks row at ≡ Refused x → chain_followed f u before ≡ stopped x
+    pub here_refused : (x : Refusal) → judged f u marks row at ≡ Err x → chain_followed f u before ≡ stopped x
     here_refused x e = go_on ∙ rw e
 
-    module _ (e : judged f u marks row at ≡ Accepted) (long : at - 1 < length marks) where
+    module _ (e : judged f u marks row at ≡ Ok tt) (long : at - 1 < length marks) where
       pub here_next : (bounded : labels_of f ≤ 8) (more : Row)
           → mask_in more (record_of f at).target ≡ with_bit (mask_in row (record_of f at).target) (bit_of (record_of f at).kind)
           → ((x : ℕ) → (x ≡ (record_of f at).target → ⊥) → mask_in more x ≡ mask_in row x)

@@ -3,6 +3,7 @@ use mathlib.Core.Path.{◌≡◌, refl, ap, ◌∙◌}
 use mathlib.Core.Bool.{true, not}
 use mathlib.Core.List.{List, [], ◌++◌}
 use mathlib.Core.Logic.{by_cases}
+use Rattle.std.specs.Prelude.{Ok, Err}
 use Prim.Native.Nat.{ℕ, zero, suc, ◌+◌, ◌-◌, ◌≤◌, ◌<◌}
 use native.Mathlib.Decide.{ℕ_discrete, dec_lt}
 use native.Mathlib.Numerals.{add-one}
@@ -19,27 +20,13 @@ use Rattle.masks.proofs.TableLaws.{get_or_zeros}
 use Rattle.house_layout.specs.Layout.{parties_of, labels_of, records_of}
 use Rattle.house_layout.specs.Reply.{refuse}
 use Rattle.house_layout.specs.Fields.{legal_kind}
-use Rattle.house_file.specs.Check.{says, Followed, stopped, passed, and_then, follow_chains, every_reached, reached_all, chains_check}
-use Rattle.house_file.specs.promises.Reading.{check_reply, RecordMarks, RowOf, chain_followed}
+use Rattle.house_file.specs.Check.{says, stopped, passed, and_then, follow_chains, every_reached, reached_all, chains_check}
+use Rattle.house_file.specs.promises.Reading.{RecordMarks, RowOf, chain_followed}
 use Rattle.house_file.specs.Meaning.{chain_of, recorded}
 use Rattle.house_layout.specs.promises.Kinds.{bit_of}
-use Rattle.house_layout.specs.declared.reply.Check.{Check}
-use Rattle.house_layout.specs.declared.reply.Check.TheVariants.{Accepted, Refused}
 use Rattle.house_layout.specs.declared.reply.Refusal.{Refusal}
 use Rattle.house_layout.specs.declared.reply.Refusal.TheVariants.{Unreached}
 use Rattle.house_file.proofs.ChainsLaws.{chain_passed}
-
--- what a reply says of the chains followed
-pub stopped_of : (w : Followed) (x : Refusal) → check_reply w ≡ Refused x → w ≡ stopped x
-stopped_of (stopped y) x e = cc
-stopped_of (passed c) x e = let z : ◌≡◌ {A = ℕ} 0 1 = cc in absurd (omega arith)
-
-pub passed_of : (w : Followed) → check_reply w ≡ Accepted → (c : List ℕ) × (w ≡ passed c)
-passed_of (stopped y) e = let z : ◌≡◌ {A = ℕ} 0 1 = cc in absurd (omega arith)
-passed_of (passed c) e = (c, refl)
-
-pub refused_not : {G : Type 0} {c : Check} {x : Refusal} → c ≡ Refused x → c ≡ Accepted → G
-refused_not p q = let z : ◌≡◌ {A = ℕ} 0 1 = cc in absurd (omega arith)
 
 -- the chains below party u were followed: what was reached, and the chains that are left
 pub record Upto (f : List ℕ) (u : ℕ) (marks : List ℕ) (kinds : Table) : Type 0 where
@@ -72,7 +59,7 @@ module _ (f : List ℕ) (u : ℕ) (marks : List ℕ) (kinds : Table) (h : Upto f
     turn zero e = absurd (omega arith)
     turn (suc m) e = let p : suc m - 1 ≡ m = omega arith in rw p
 
-    pub upto_refused : (x : Refusal) → chain_followed f u h.before ≡ stopped x → chains_check f ≡ Refused x
+    pub upto_refused : (x : Refusal) → chain_followed f u h.before ≡ stopped x → chains_check f ≡ Err x
     unfolding chains_check
     upto_refused x e = let w : follow_chains f 0 (parties_of f) [] ≡ stopped x = h.same ∙ turn h.left h.count ∙ rw e in rw w
 
@@ -100,7 +87,7 @@ module _ (f : List ℕ) (u : ℕ) (marks : List ℕ) (kinds : Table) (h : Upto f
     done zero e = refl
     done (suc m) e = absurd (omega arith)
 
-    pub upto_end : chains_check f ≡ refuse (not (every_reached (records_of f) h.before)) Unreached Accepted
+    pub upto_end : chains_check f ≡ refuse (not (every_reached (records_of f) h.before)) Unreached (Ok tt)
     unfolding chains_check
     upto_end = ap (reached_all (records_of f)) (h.same ∙ done h.left h.count)
 

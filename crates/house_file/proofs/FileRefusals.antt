@@ -4,6 +4,7 @@ use mathlib.Core.Path.{◌≡◌, refl}
 use mathlib.Core.Logic.{◌⊎◌, inl, inr}
 use mathlib.Core.Bool.{Bool, true, false, not}
 use mathlib.Core.List.{List, [], ◌∷◌, ◌++◌}
+use Rattle.std.specs.Prelude.{⊤, Result, Ok, Err}
 use Prim.Native.Nat.{ℕ, zero, suc, ◌≤◌}
 use native.Mathlib.Omega.{arith}
 use lib.Dec.{eqb, ltb}
@@ -15,8 +16,6 @@ use Rattle.house_layout.specs.Fields.{fields_in_range, foreign, legal_target, le
 use Rattle.house_layout.specs.declared.record.Record.{Record}
 use Rattle.house_layout.specs.declared.reply.Refusal.{Refusal}
 use Rattle.house_layout.specs.declared.reply.Refusal.TheVariants.{Length, Field, Link, Again, Unreached, Owner, Target, Kind, Repeat}
-use Rattle.house_layout.specs.declared.reply.Check.{Check}
-use Rattle.house_layout.specs.declared.reply.Check.TheVariants.{Accepted, Refused}
 use Rattle.house_file.specs.Check.{record_check, Followed, stopped, passed, if_accepted, enough_turns, follow_chain}
 use Rattle.house_file.specs.Check.{and_then, follow_chains, reached_all, chains_check, check_of}
 
@@ -24,15 +23,15 @@ use Rattle.house_file.specs.Check.{and_then, follow_chains, reached_all, chains_
 abbrev pub OfFile : Refusal → Type 0
 OfFile x = (number_of x ≤ 8) ⊎ (number_of x ≡ 15)
 
-abbrev FromFile : Check → Type 0
-FromFile Accepted = Unit {0}
-FromFile (Refused x) = OfFile x
+abbrev FromFile : Result ⊤ Refusal → Type 0
+FromFile (Ok _) = Unit {0}
+FromFile (Err x) = OfFile x
 
 abbrev FollowedFromFile : Followed → Type 0
 FollowedFromFile (stopped x) = OfFile x
 FollowedFromFile (passed c) = Unit {0}
 
-refuse_from : (b : Bool) (x : Refusal) (c : Check) → OfFile x → FromFile c → FromFile (refuse b x c)
+refuse_from : (b : Bool) (x : Refusal) (c : Result ⊤ Refusal) → OfFile x → FromFile c → FromFile (refuse b x c)
 refuse_from true x c h k = h
 refuse_from false x c h k = k
 
@@ -49,9 +48,9 @@ judge_from_lem n l u r again repeat =
     (refuse_from (not (legal_kind l r.kind)) Kind _ (inl (omega arith))
     (refuse_from repeat Repeat _ (inl (omega arith)) tt))))
 
-accepted_from : (c : Check) (w : Followed) → FromFile c → FollowedFromFile w → FollowedFromFile (if_accepted c w)
-accepted_from Accepted w h k = k
-accepted_from (Refused x) w h k = h
+accepted_from : (c : Result ⊤ Refusal) (w : Followed) → FromFile c → FollowedFromFile w → FollowedFromFile (if_accepted c w)
+accepted_from (Ok _) w h k = k
+accepted_from (Err x) w h k = h
 
 chain_from_lem : (f : List ℕ) (u k : ℕ) (before earlier : List ℕ) (r : ℕ) → FollowedFromFile (follow_chain f u k before earlier r)
 unfolding follow_chain record_check
@@ -87,5 +86,5 @@ check_from f =
     (refuse_from (not (eqb (length f) (size_of f))) Length _ (inl (omega arith))
     (reached_from (records_of f) (follow_chains f 0 (parties_of f) []) (chains_from_lem f 0 (parties_of f) []))))
 
-pub file_refusals : (f : List ℕ) (x : Refusal) → check_of f ≡ Refused x → OfFile x
+pub file_refusals : (f : List ℕ) (x : Refusal) → check_of f ≡ Err x → OfFile x
 file_refusals f x e = rw e at (check_from f)

@@ -2,6 +2,8 @@
 use mathlib.Core.Path.{◌≡◌, refl, sym, ap, ◌∙◌}
 use mathlib.Core.Bool.{Bool, true, false}
 use mathlib.Core.List.{List, [], ◌∷◌, ◌++◌, append_assoc, Memᴰ, append-nil}
+use Rattle.std.specs.Prelude.{⊤, Result, Ok, Err}
+use Rattle.house_layout.specs.declared.reply.Refusal.{Refusal}
 use Prim.Native.Nat.{ℕ, zero, suc, ◌≤◌, ◌<◌}
 use native.Mathlib.Omega.{arith}
 use lib.Dec.{eqb, ltb}
@@ -13,8 +15,6 @@ use Rattle.house_layout.specs.Layout.{parties_of, labels_of, records_of, record_
 use Rattle.house_layout.specs.Fields.{foreign, legal_target, legal_kind}
 use Rattle.house_file.specs.Check.{record_check, says, Followed, passed, if_accepted, follow_chain}
 use Rattle.house_file.specs.Meaning.{chain_from, IsChain}
-use Rattle.house_layout.specs.declared.reply.Check.{Check}
-use Rattle.house_layout.specs.declared.reply.Check.TheVariants.{Accepted, Refused}
 use Rattle.house_layout.proofs.RecordLaws.{judge_accepts, judge_passed}
 use Rattle.house_file.proofs.ChainLaws.{any_more, any_yes, any_no, unlike}
 
@@ -90,7 +90,7 @@ module _ (f : List ℕ) (u : ℕ) (before earlier : List ℕ) (r : ℕ) (c : Lis
   moved s = ap (member s) (sym (append_assoc before earlier (r ∷ [])))
 
   -- one record more in front
-  right_cons : record_check f u before earlier r ≡ Accepted
+  right_cons : record_check f u before earlier r ≡ Ok tt
       → Right f u before (earlier ++ (r ∷ [])) (record_of f r).next c
       → Right f u before earlier r (r ∷ c)
   unfolding record_check
@@ -134,7 +134,7 @@ module _ (f : List ℕ) (u : ℕ) (before earlier : List ℕ) (r : ℕ) (c : Lis
         different = λ s t m n a b. h.different s t (mathlib.Core.List.Memᴰ.tail m) (mathlib.Core.List.Memᴰ.tail n) a b;
       }
 
-  right_accepts : Right f u before earlier r (r ∷ c) → record_check f u before earlier r ≡ Accepted
+  right_accepts : Right f u before earlier r (r ∷ c) → record_check f u before earlier r ≡ Ok tt
   unfolding record_check
   right_accepts h =
       let here : Memᴰ r (r ∷ c) = mathlib.Core.List.Memᴰ.head refl in
@@ -142,9 +142,9 @@ module _ (f : List ℕ) (u : ℕ) (before earlier : List ℕ) (r : ℕ) (c : Lis
       (h.fresh r here) (h.owner r here) (h.target r here) (h.kind r here) (h.new r here)
 
 -- where following passes, each record was accepted
-accepted_passed : (x : Check) (w : Followed) {c : List ℕ} → if_accepted x w ≡ passed c → (x ≡ Accepted) × (w ≡ passed c)
-accepted_passed Accepted w e = (refl, e)
-accepted_passed (Refused y) w e = unlike refl e
+accepted_passed : (x : Result ⊤ Refusal) (w : Followed) {c : List ℕ} → if_accepted x w ≡ passed c → (x ≡ Ok tt) × (w ≡ passed c)
+accepted_passed (Ok _) w e = (refl, e)
+accepted_passed (Err y) w e = unlike refl e
 
 pub record Passes (f : List ℕ) (u k : ℕ) (before earlier : List ℕ) (r : ℕ) (c : List ℕ) : Type 0 where
   pub shape : c ≡ earlier ++ chain_from f k r
@@ -164,7 +164,7 @@ no_turns f u before earlier r e = unlike refl e
 
 -- where following passed, it ended here or went on over this record
 follow_cases : (f : List ℕ) (u k : ℕ) (before earlier : List ℕ) (r : ℕ) (c : List ℕ) → follow_chain f u (suc k) before earlier r ≡ passed c
-    → ((z : r ≡ 0 → ⊥) (l : r ≤ records_of f) → record_check f u before earlier r ≡ Accepted
+    → ((z : r ≡ 0 → ⊥) (l : r ≤ records_of f) → record_check f u before earlier r ≡ Ok tt
     → follow_chain f u k before (earlier ++ (r ∷ [])) (record_of f r).next ≡ passed c → Passes f u k before earlier r c)
     → Passes f u k before earlier r c
 follow_cases f u k before earlier r c e step =

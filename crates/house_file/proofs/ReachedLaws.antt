@@ -1,11 +1,15 @@
 -- Every record was reached exactly where no mark is 0. Assumes nothing.
 use mathlib.Core.Path.{◌≡◌, sym, ap, ◌∙◌}
-use mathlib.Core.Bool.{true, false, not}
+use mathlib.Core.Bool.{Bool, true, false, not}
 use mathlib.Core.List.{List}
-use Prim.Native.Nat.{ℕ, suc, ◌-◌, ◌<◌}
+use Prim.Native.Nat.{ℕ, suc, ◌-◌, ◌≤◌, ◌<◌}
 use native.Mathlib.Omega.{arith}
-use lib.ListN.{get_or}
-use borrow.Author.Tests.{eq-eqb, ne_eqb}
+use lib.Dec.{eqb}
+use lib.ListN.{get_or, length, take}
+use Rattle.std.proofs.Common.{length-take}
+use Rattle.std.proofs.lemmas.List.{get_or-take}
+use Rattle.std.specs.List.{IsAnyAnswer}
+use borrow.Author.Tests.{eq-eqb, ne_eqb, eqb-true}
 use Rattle.lists.specs.Lists.{member, up_from}
 use Rattle.lists.proofs.Cases.{by_test, both}
 use Rattle.lists.proofs.ListLaws.{all_in, all_of_lem, up_in, up_out}
@@ -25,3 +29,15 @@ module _ (marks seen : List ℕ) (m : RecordMarks marks seen) (records : ℕ) wh
       all_of_lem (λ s. member s seen) (up_from 1 records) (λ s n.
       let b = up_out 1 records n in
       sym (m s b.0) ∙ ap not (ne_eqb (get_or marks (s - 1) 0) 0 (f (s - 1) (omega (arith, b.0, b.1)))))
+
+  -- by the search for a 0 among the marks of the records
+  pub reached_where : records ≤ length marks → (missing : Bool) → IsAnyAnswer (λ y b. eqb y 0 ≡ b) (take records marks) missing
+      → not missing ≡ every_reached records seen
+  reached_where h true (k, l, e) =
+      let n : k < records = omega (arith, length-take records marks) in
+      sym (one_missing k n (eqb-true _ 0 (rw (get_or-take records marks k 0 n) at (e 0))))
+  reached_where h false a =
+      sym (none_missing (λ i l z.
+      let f : eqb (get_or marks i 0) 0 ≡ false = rw (← get_or-take records marks i 0 l) (a i 0 (omega arith) (omega (arith, length-take records marks))) in
+      let t : eqb (get_or marks i 0) 0 ≡ true = eq-eqb _ 0 z in
+      cc))

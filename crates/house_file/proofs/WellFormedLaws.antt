@@ -4,6 +4,7 @@ use mathlib.Core.Bool.{Bool, true, false, not}
 use mathlib.Core.Logic.{◌↔◌}
 use mathlib.Core.List.Memᴰ
 use mathlib.Core.List.{List, [], Memᴰ}
+use Rattle.std.specs.Prelude.{⊤, Result, Ok, Err}
 use Prim.Native.Nat.{ℕ, ◌≤◌, ◌<◌}
 use native.Mathlib.Omega.{arith}
 use lib.ListN.{length}
@@ -18,8 +19,6 @@ use Rattle.house_layout.specs.Reply.{refuse}
 use Rattle.house_layout.specs.Fields.{within, fields_in_range}
 use Rattle.house_file.specs.Check.{Followed, stopped, passed, follow_chains, reached_all, chains_check, check_of}
 use Rattle.house_file.specs.Meaning.{chain_of, FieldsRight, WellFormed}
-use Rattle.house_layout.specs.declared.reply.Check.{Check}
-use Rattle.house_layout.specs.declared.reply.Check.TheVariants.{Accepted, Refused}
 use Rattle.house_layout.specs.declared.reply.Refusal.{Refusal}
 use Rattle.house_layout.specs.declared.reply.Refusal.TheVariants.{Length, Field, Unreached}
 use Rattle.house_layout.proofs.RecordLaws.{owner_is_own, not_foreign, target_below, target_other, target_legal, kind_cases, kind_legal}
@@ -27,11 +26,11 @@ use Rattle.house_file.proofs.ChainsLaws.{chains_from, chains_in, chains_out, fol
 use Rattle.house_file.proofs.LinkedLaws.{records_right}
 
 -- a test that was passed over
-pub refuse_passed : (b : Bool) (x : Refusal) (k : Check) → refuse b x k ≡ Accepted → (b ≡ false) × (k ≡ Accepted)
+pub refuse_passed : (b : Bool) (x : Refusal) (k : Result ⊤ Refusal) → refuse b x k ≡ Ok tt → (b ≡ false) × (k ≡ Ok tt)
 refuse_passed true x k e = let z : ◌≡◌ {A = ℕ} 0 1 = cc in absurd (omega arith)
 refuse_passed false x k e = (refl, e)
 
-pub passed_refuse : {b : Bool} (x : Refusal) {k : Check} → b ≡ false → k ≡ Accepted → refuse b x k ≡ Accepted
+pub passed_refuse : {b : Bool} (x : Refusal) {k : Result ⊤ Refusal} → b ≡ false → k ≡ Ok tt → refuse b x k ≡ Ok tt
 passed_refuse x p q = rw p q
 
 range_out : (low high x : ℕ) → within low high x ≡ true → (low ≤ x) × (x ≤ high)
@@ -71,14 +70,14 @@ right_fields f h =
     (le-leb (records_of f) 8928 h.records))))))
 
 -- all records were reached
-reached_out : (r : ℕ) (w : Followed) → reached_all r w ≡ Accepted
+reached_out : (r : ℕ) (w : Followed) → reached_all r w ≡ Ok tt
     → (all : List ℕ) × ((w ≡ passed all) × ((s : ℕ) → 1 ≤ s → s ≤ r → Memᴰ s all))
 reached_out r (stopped x) e = let z : ◌≡◌ {A = ℕ} 0 1 = cc in absurd (omega arith)
 reached_out r (passed all) e =
-    let t = not-false _ (refuse_passed (not (all_of (λ s. member s all) (up_from 1 r))) Unreached Accepted e).0 in
+    let t = not-false _ (refuse_passed (not (all_of (λ s. member s all) (up_from 1 r))) Unreached (Ok tt) e).0 in
     (all, (refl, λ s a b. member_out s all (all_in (λ s. member s all) (up_from 1 r) t (up_in 1 r s a (omega arith)))))
 
-reached_in : (r : ℕ) (all : List ℕ) → ((s : ℕ) → 1 ≤ s → s ≤ r → Memᴰ s all) → reached_all r (passed all) ≡ Accepted
+reached_in : (r : ℕ) (all : List ℕ) → ((s : ℕ) → 1 ≤ s → s ≤ r → Memᴰ s all) → reached_all r (passed all) ≡ Ok tt
 reached_in r all h =
     passed_refuse Unreached
     (ap not (all_of_lem (λ s. member s all) (up_from 1 r)
@@ -87,15 +86,15 @@ reached_in r all h =
 
 -- the check, by the outcome of its first tests
 module _ (f : List ℕ) where
-  pub check_short : length f < 8 → check_of f ≡ Refused Length
+  pub check_short : length f < 8 → check_of f ≡ Err Length
   unfolding check_of
   check_short h = rw (lt-ltb (length f) 8 h)
 
-  pub check_field : 8 ≤ length f → fields_in_range f ≡ false → check_of f ≡ Refused Field
+  pub check_field : 8 ≤ length f → fields_in_range f ≡ false → check_of f ≡ Err Field
   unfolding check_of
   check_field h e = rw (le-ltb (length f) 8 h, e)
 
-  pub check_size : 8 ≤ length f → fields_in_range f ≡ true → (length f ≡ size_of f → ⊥) → check_of f ≡ Refused Length
+  pub check_size : 8 ≤ length f → fields_in_range f ≡ true → (length f ≡ size_of f → ⊥) → check_of f ≡ Err Length
   unfolding check_of
   check_size h e n = rw (le-ltb (length f) 8 h, e, ne_eqb (length f) (size_of f) n)
 
@@ -108,9 +107,9 @@ pub record Framing (f : List ℕ) : Type 0 where
   pub long : 8 ≤ length f
   pub fields : FieldsRight f
   pub size : length f ≡ size_of f
-  pub chains : chains_check f ≡ Accepted
+  pub chains : chains_check f ≡ Ok tt
 
-pub framing : (f : List ℕ) → check_of f ≡ Accepted → Framing f
+pub framing : (f : List ℕ) → check_of f ≡ Ok tt → Framing f
 unfolding check_of
 framing f e =
     let a = refuse_passed (ltb (length f) 8) Length _ e in
@@ -123,7 +122,7 @@ framing f e =
       chains = d.1;
     }
 
-well_formed : (f : List ℕ) → check_of f ≡ Accepted → WellFormed f
+well_formed : (f : List ℕ) → check_of f ≡ Ok tt → WellFormed f
 unfolding chains_check
 well_formed f e =
     let g = framing f e in
@@ -152,7 +151,7 @@ well_formed f e =
       };
     }
 
-accepted : (f : List ℕ) → WellFormed f → check_of f ≡ Accepted
+accepted : (f : List ℕ) → WellFormed f → check_of f ≡ Ok tt
 unfolding check_of chains_check
 accepted f w =
     let h = records_right f w in
@@ -177,5 +176,5 @@ accepted f w =
     chains_in f 0 (parties_of f) r.0 s (omega arith) (omega (arith, r.1.0)) r.1.1))))
 
 -- a file is accepted exactly where it is well formed
-pub accepted_iff_well_formed : (f : List ℕ) → (check_of f ≡ Accepted) ↔ WellFormed f
+pub accepted_iff_well_formed : (f : List ℕ) → (check_of f ≡ Ok tt) ↔ WellFormed f
 accepted_iff_well_formed f = (well_formed f, accepted f)

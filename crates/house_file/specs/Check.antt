@@ -1,13 +1,11 @@
 -- The check of a house file: 01's order of checks and its refusals 1 to 8; 02's refusal 15 stands between 4 and 6.
-use Rattle.std.specs.Prelude.{ℕ, zero, suc, Bool, not, ◌&&◌, List, [], ◌∷◌, ◌++◌, length, eqb, ltb}
+use Rattle.std.specs.Prelude.{ℕ, zero, suc, Bool, ⊤, Result, Ok, Err, not, ◌&&◌, List, [], ◌∷◌, ◌++◌, length, eqb, ltb}
 use Rattle.lists.specs.Lists.{pick, all_of, any_of, member, up_from}
 use Rattle.house_layout.specs.Layout.{parties_of, labels_of, records_of, header_size, size_of, head_of, record_of}
 use Rattle.house_layout.specs.Reply.{refuse}
 use Rattle.house_layout.specs.Fields.{fields_in_range, judge_record}
 use Rattle.house_layout.specs.declared.reply.Refusal.{Refusal}
 use Rattle.house_layout.specs.declared.reply.Refusal.TheVariants.{Length, Field, Link, Again, Unreached}
-use Rattle.house_layout.specs.declared.reply.Check.{Check}
-use Rattle.house_layout.specs.declared.reply.Check.TheVariants.{Accepted, Refused}
 
 -- record s has this target and kind
 unfoldable pub says : List ℕ → ℕ → ℕ → ℕ → Bool
@@ -15,7 +13,7 @@ says f t k s = eqb (record_of f s).target t && eqb (record_of f s).kind k
 
 -- the checks 4, 15, 6, 7, 8 of record r of party u's chain. `before`: the records of the chains of lower parties;
 -- `earlier`: those of this chain
-unfoldable pub record_check : List ℕ → ℕ → List ℕ → List ℕ → ℕ → Check
+unfoldable pub record_check : List ℕ → ℕ → List ℕ → List ℕ → ℕ → Result ⊤ Refusal
 record_check f u before earlier r =
     judge_record (parties_of f) (labels_of f) u (record_of f r)
     (member r (before ++ earlier))
@@ -26,9 +24,9 @@ pub data Followed : Type 0 where
   stopped : Refusal → Followed
   passed : List ℕ → Followed
 
-abbrev pub if_accepted : Check → Followed → Followed
-if_accepted Accepted w = w
-if_accepted (Refused x) w = stopped x
+abbrev pub if_accepted : Result ⊤ Refusal → Followed → Followed
+if_accepted (Ok _) w = w
+if_accepted (Err x) w = stopped x
 
 -- R + 1 turns: a chain passes each record once, so they are enough, and a turn more could only meet a record again
 abbrev pub enough_turns : List ℕ → ℕ
@@ -58,15 +56,15 @@ abbrev pub every_reached : ℕ → List ℕ → Bool
 every_reached r seen = all_of (λ s. member s seen) (up_from 1 r)
 
 -- a record never reached comes last
-abbrev pub reached_all : ℕ → Followed → Check
-reached_all r (stopped x) = Refused x
-reached_all r (passed all) = refuse (not (every_reached r all)) Unreached Accepted
+abbrev pub reached_all : ℕ → Followed → Result ⊤ Refusal
+reached_all r (stopped x) = Err x
+reached_all r (passed all) = refuse (not (every_reached r all)) Unreached (Ok tt)
 
-unfoldable pub chains_check : List ℕ → Check
+unfoldable pub chains_check : List ℕ → Result ⊤ Refusal
 chains_check f = reached_all (records_of f) (follow_chains f 0 (parties_of f) [])
 
 -- the check's reply for any bytes
-unfoldable pub check_of : List ℕ → Check
+unfoldable pub check_of : List ℕ → Result ⊤ Refusal
 check_of f =
     refuse (ltb (length f) header_size) Length
     (refuse (not (fields_in_range f)) Field

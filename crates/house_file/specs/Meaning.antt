@@ -1,5 +1,5 @@
 -- What a house file says, by the records of each party's chain; and what it is to be well formed, in plain terms.
-use Rattle.std.specs.Prelude.{ℕ, zero, suc, ◌≤◌, ◌<◌, ◌≡◌, ◌⊎◌, Bool, ◌&&◌, ◌||◌, length, eqb, ltb}
+use Rattle.std.specs.Prelude.{ℕ, zero, suc, ◌≤◌, ◌<◌, ◌≡◌, ◌⊎◌, Bool, Some, ◌&&◌, ◌||◌, length, eqb, ltb}
 use mathlib.Core.List.{List, [], ◌∷◌, Memᴰ}
 use Rattle.lists.specs.Lists.{any_of, pick}
 use Rattle.lists.specs.Order.{Distinct}
@@ -7,7 +7,6 @@ use Rattle.limits.specs.Limits.{most_parties, most_labels, last_language, longes
 use Rattle.fields.specs.Numbers.{byte_at}
 use Rattle.house_layout.specs.Layout.{last_edition, edition_of, parties_of, labels_of, language_of, longest_of, records_of}
 use Rattle.house_layout.specs.Layout.{header_size, size_of, head_of, record_of, permit_kind}
-use Rattle.house_layout.specs.declared.record.OwnerByte.TheVariants.{Party}
 use Rattle.house_file.specs.Check.{says}
 
 -- the records from r on, as far as each number names one
@@ -58,7 +57,7 @@ pub record RecordsRight (f : List ℕ) (chain : ℕ → List ℕ) : Type 0 where
   pub once : (u : ℕ) → u < parties_of f → Distinct (chain u)
   pub apart : (u v r : ℕ) → u < v → v < parties_of f → Memᴰ r (chain u) → Memᴰ r (chain v) → ⊥
   -- an owner byte, where the edition has one, names the chain's party (02, Ticket 2)
-  pub owner : (u r : ℕ) → u < parties_of f → Memᴰ r (chain u) → (p : ℕ) → (record_of f r).owner ≡ Party p → p ≡ u
+  pub owner : (u r : ℕ) → u < parties_of f → Memᴰ r (chain u) → (p : ℕ) → (record_of f r).owner ≡ Some p → p ≡ u
   -- targets and kinds
   pub target : (u r : ℕ) → u < parties_of f → Memᴰ r (chain u)
       → ((record_of f r).target < parties_of f) × ((record_of f r).target ≡ u → ⊥)

@@ -4,20 +4,17 @@ ghost use Rattle.limits.specs.Limits.{most_records};
 ghost use Rattle.house_file.specs.promises.Reading.{ChainThere, RecordMarks, ChainRead};
 
 use fields::u16_at;
-use house_layout::{
-    Check, HEAD_SIZE, HEADER_SIZE, Header, Refusal, bit_of, check_record, read_record,
-};
+use house_layout::{HEAD_SIZE, HEADER_SIZE, Header, Refusal, bit_of, check_record, read_record};
 use limits::MOST_RECORDS;
 use masks::Row;
 
-#[derive(Clone, Copy)]
-pub struct Chain {
-    pub reply: Check,
-    pub row: Row,
-}
-
-// Party u's chain; `marks` has a place for each record, not 0 where it was reached.
-pub fn read_chain(file: &[u8], h: Header, u: usize, marks: &mut [u8; MOST_RECORDS]) -> Chain
+// The kinds of party u's chain; `marks` has a place for each record, not 0 where it was reached.
+pub fn read_chain(
+    file: &[u8],
+    h: Header,
+    u: usize,
+    marks: &mut [u8; MOST_RECORDS],
+) -> Result<Row, Refusal>
     requires { ChainThere file.now h u marks.old }
     ensures places { length marks.new ≡ most_records }
     ensures read { (before : List ℕ) → RecordMarks marks.old before
@@ -27,27 +24,13 @@ pub fn read_chain(file: &[u8], h: Header, u: usize, marks: &mut [u8; MOST_RECORD
     let mut at = u16_at(file, HEADER_SIZE + HEAD_SIZE * u);
     while at != 0 {
         if h.records < at {
-            return Chain {
-                reply: Check::Refused(Refusal::Link),
-                row,
-            };
+            return Err(Refusal::Link);
         }
         let x = read_record(file, h, at);
-        let reply = check_record(h, u, x, marks[at - 1], row);
-        match reply {
-            Check::Refused(e) => return Chain {
-                reply: Check::Refused(e),
-                row,
-            },
-            Check::Accepted => {
-                marks[at - 1] = 1;
-                row = masks::add(row, x.target, bit_of(x.kind));
-                at = x.next;
-            }
-        }
+        check_record(h, u, x, marks[at - 1], row)?;
+        marks[at - 1] = 1;
+        row = masks::add(row, x.target, bit_of(x.kind));
+        at = x.next;
     }
-    Chain {
-        reply: Check::Accepted,
-        row,
-    }
+    Ok(row)
 }

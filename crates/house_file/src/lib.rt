@@ -4,4 +4,4 @@
 mod chain;
 mod decode;
 
-pub use decode::{House, Reading, check, read};
+pub use decode::{House, check, read};

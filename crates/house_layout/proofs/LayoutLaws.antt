@@ -5,9 +5,9 @@ use mathlib.Core.Logic.{◌⊎◌, inl, inr, ⊎_elim}
 use Prim.Native.Nat.{ℕ, ◌+◌, ◌*◌, ◌/◌, ◌%◌, ◌≤◌, ◌<◌}
 use native.Mathlib.Omega.{arith}
 use lib.Dec.{eqb}
+use Rattle.std.specs.Prelude.{Some, None}
 use Rattle.lists.proofs.Cases.{by_test}
 use Rattle.house_layout.specs.Layout.{edition_of, records_of, record_size, owner_in, size_of, place_of}
-use Rattle.house_layout.specs.declared.record.OwnerByte.TheVariants.{Missing, Party}
 
 size_cases : (e : ℕ) → (record_size e ≡ 4) ⊎ (record_size e ≡ 5)
 unfolding record_size
@@ -36,12 +36,12 @@ unfolding record_size owner_in
 owner_apart e u v s h =
     by_test (eqb e 1)
     (λ q. let n : 4 < 4 = rw q at s in absurd (omega arith))
-    (λ q. let n : Party u ≡ Party v = rw q at h in cc)
+    (λ q. let n : Some u ≡ Some v = rw q at h in cc)
 
 -- an owner that is named is the one written
-pub owner_named : (e u p : ℕ) → owner_in e u ≡ Party p → p ≡ u
+pub owner_named : (e u p : ℕ) → owner_in e u ≡ Some p → p ≡ u
 unfolding owner_in
 owner_named e u p h =
     by_test (eqb e 1)
-    (λ q. let n : Missing ≡ Party p = rw q at h in let z : ◌≡◌ {A = ℕ} 0 1 = cc in absurd (omega arith))
-    (λ q. let n : Party u ≡ Party p = rw q at h in cc)
+    (λ q. let n : None ≡ Some p = rw q at h in cc)
+    (λ q. let n : Some u ≡ Some p = rw q at h in cc)

@@ -1,3 +1,4 @@
 pub mod RefusalNumbers
 pub mod RecordLaws
 pub mod LayoutLaws
+pub mod Exits

@@ -6,31 +6,28 @@ use mathlib.Core.Bool.{Bool, true, false, not}
 use Prim.Native.Nat.{ℕ, ◌≤◌, ◌<◌}
 use native.Mathlib.Omega.{arith}
 use lib.Dec.{eqb, ltb}
+use Rattle.std.specs.Prelude.{⊤, Option, Some, None, Result, Ok, Err}
 use borrow.Author.Tests.{ltb-true, eqb-true, eqb-false, eq-eqb, ne_eqb, lt-ltb, not-true, not-false}
 use Rattle.lists.proofs.Cases.{by_test, and_left, and_right}
 use Rattle.house_layout.specs.Layout.{permit_kind}
 use Rattle.house_layout.specs.Fields.{foreign, legal_target, legal_kind, judge_record}
 use Rattle.house_layout.specs.promises.Kinds.{bit_of}
 use Rattle.house_layout.specs.declared.record.Record.{Record}
-use Rattle.house_layout.specs.declared.record.OwnerByte.{OwnerByte}
-use Rattle.house_layout.specs.declared.record.OwnerByte.TheVariants.{Missing, Party}
-use Rattle.house_layout.specs.declared.reply.Check.{Check}
-use Rattle.house_layout.specs.declared.reply.Check.TheVariants.{Accepted, Refused}
 use Rattle.house_layout.specs.declared.reply.Refusal.{Refusal}
 use Rattle.house_layout.specs.declared.reply.Refusal.TheVariants.{Again, Owner, Target, Kind, Repeat}
 
 -- by the check's reply
-pub by_check : {G : Type 0} (c : Check) → (c ≡ Accepted → G) → ((x : Refusal) → c ≡ Refused x → G) → G
-by_check Accepted g h = g refl
-by_check (Refused x) g h = h x refl
+pub by_check : {G : Type 0} (c : Result ⊤ Refusal) → (c ≡ Ok tt → G) → ((x : Refusal) → c ≡ Err x → G) → G
+by_check (Ok _) g h = g refl
+by_check (Err x) g h = h x refl
 
 -- an owner byte
-pub owner_is_own : (u : ℕ) (o : OwnerByte) → foreign u o ≡ false → (p : ℕ) → o ≡ Party p → p ≡ u
+pub owner_is_own : (u : ℕ) (o : Option ℕ) → foreign u o ≡ false → (p : ℕ) → o ≡ Some p → p ≡ u
 owner_is_own u o e p q = eqb-true p u (not-false (eqb p u) (rw q at e))
 
-pub not_foreign : (u : ℕ) (o : OwnerByte) → ((p : ℕ) → o ≡ Party p → p ≡ u) → foreign u o ≡ false
-not_foreign u Missing h = refl
-not_foreign u (Party p) h = ap not (eq-eqb p u (h p refl))
+pub not_foreign : (u : ℕ) (o : Option ℕ) → ((p : ℕ) → o ≡ Some p → p ≡ u) → foreign u o ≡ false
+not_foreign u None h = refl
+not_foreign u (Some p) h = ap not (eq-eqb p u (h p refl))
 
 -- a target
 pub target_below : (n u t : ℕ) → legal_target n u t ≡ true → t < n
@@ -91,27 +88,27 @@ module _ (n l u : ℕ) (r : Record) where
   abbrev K : Bool
   K = legal_kind l r.kind
 
-  pub judge_again : (a p : Bool) → a ≡ true → judge_record n l u r a p ≡ Refused Again
+  pub judge_again : (a p : Bool) → a ≡ true → judge_record n l u r a p ≡ Err Again
   unfolding judge_record
   judge_again a p e = rw e
 
-  pub judge_owner : (a p : Bool) → a ≡ false → O ≡ true → judge_record n l u r a p ≡ Refused Owner
+  pub judge_owner : (a p : Bool) → a ≡ false → O ≡ true → judge_record n l u r a p ≡ Err Owner
   unfolding judge_record
   judge_owner a p e o = rw (e, o)
 
-  pub judge_target : (a p : Bool) → a ≡ false → O ≡ false → T ≡ false → judge_record n l u r a p ≡ Refused Target
+  pub judge_target : (a p : Bool) → a ≡ false → O ≡ false → T ≡ false → judge_record n l u r a p ≡ Err Target
   unfolding judge_record
   judge_target a p e o t = rw (e, o, t)
 
-  pub judge_kind : (a p : Bool) → a ≡ false → O ≡ false → T ≡ true → K ≡ false → judge_record n l u r a p ≡ Refused Kind
+  pub judge_kind : (a p : Bool) → a ≡ false → O ≡ false → T ≡ true → K ≡ false → judge_record n l u r a p ≡ Err Kind
   unfolding judge_record
   judge_kind a p e o t k = rw (e, o, t, k)
 
-  pub judge_repeat : (a p : Bool) → a ≡ false → O ≡ false → T ≡ true → K ≡ true → p ≡ true → judge_record n l u r a p ≡ Refused Repeat
+  pub judge_repeat : (a p : Bool) → a ≡ false → O ≡ false → T ≡ true → K ≡ true → p ≡ true → judge_record n l u r a p ≡ Err Repeat
   unfolding judge_record
   judge_repeat a p e o t k q = rw (e, o, t, k, q)
 
-  pub judge_accepts : (a p : Bool) → a ≡ false → O ≡ false → T ≡ true → K ≡ true → p ≡ false → judge_record n l u r a p ≡ Accepted
+  pub judge_accepts : (a p : Bool) → a ≡ false → O ≡ false → T ≡ true → K ≡ true → p ≡ false → judge_record n l u r a p ≡ Ok tt
   unfolding judge_record
   judge_accepts a p e o t k q = rw (e, o, t, k, q)
 
@@ -123,10 +120,10 @@ module _ (n l u : ℕ) (r : Record) where
     pub kind : K ≡ true
     pub new : p ≡ false
 
-  unlike : {G : Type 0} {x : Refusal} {c : Check} → c ≡ Refused x → c ≡ Accepted → G
-  unlike e h = let z : ◌≡◌ {A = ℕ} 0 1 = cc in absurd (omega arith)
+  unlike : {G : Type 0} {x : Refusal} {c : Result ⊤ Refusal} → c ≡ Err x → c ≡ Ok tt → G
+  unlike e h = cc
 
-  pub judge_passed : (a p : Bool) → judge_record n l u r a p ≡ Accepted → Passed a p
+  pub judge_passed : (a p : Bool) → judge_record n l u r a p ≡ Ok tt → Passed a p
   judge_passed a p h =
       by_test a (λ e. unlike (judge_again a p e) h) (λ e.
       by_test O (λ o. unlike (judge_owner a p e o) h) (λ o.

@@ -4,11 +4,9 @@ use mathlib.Core.Path.{◌≡◌, refl, sym, ap, ◌∙◌}
 use Prim.Native.Nat.{ℕ, ◌≤◌}
 use native.Mathlib.Omega.{arith}
 use lib.Dec.{eqb}
+use Rattle.std.specs.Prelude.{⊤, Result, Ok, Err}
 use Rattle.lists.specs.Lists.{pick}
-use Rattle.lists.proofs.Cases.{clash}
 use Rattle.house_layout.specs.Reply.{number_of, refusal, said_check}
-use Rattle.house_layout.specs.declared.reply.Check.{Check}
-use Rattle.house_layout.specs.declared.reply.Check.TheVariants.{Accepted, Refused}
 use Rattle.house_layout.specs.declared.reply.Refusal.{Refusal}
 use Rattle.house_layout.specs.declared.reply.Refusal.TheVariants.{Length, Field, Link, Again, Unreached, Target, Kind, Repeat}
 use Rattle.house_layout.specs.declared.reply.Refusal.TheVariants.{RuleList, PartyPair, GivenWord, Scratch, Inconvertible}
@@ -60,8 +58,8 @@ number_small x = (refusal_number x).1
 pub refusal_said : {x y : Refusal} → refusal (number_of x) ≡ refusal (number_of y) → x ≡ y
 refusal_said {x} {y} e = number_apart x y (cc e)
 
-pub check_said : (c d : Check) → said_check c ≡ said_check d → c ≡ d
-check_said Accepted Accepted e = refl
-check_said Accepted (Refused y) e = clash (cc e)
-check_said (Refused x) Accepted e = clash (cc e)
-check_said (Refused x) (Refused y) e = ap Refused (refusal_said e)
+pub check_said : (c d : Result ⊤ Refusal) → said_check c ≡ said_check d → c ≡ d
+check_said (Ok _) (Ok _) e = refl
+check_said (Ok _) (Err y) e = cc
+check_said (Err x) (Ok _) e = cc
+check_said (Err x) (Err y) e = ap Err (refusal_said e)

@@ -1,15 +1,12 @@
 -- Which header fields and which record a file may have: the tests of 01's order of checks that need no chain.
-use Rattle.std.specs.Prelude.{ℕ, Bool, false, not, ◌&&◌, ◌||◌, List, eqb, ltb, leb}
+use Rattle.std.specs.Prelude.{ℕ, Bool, false, ⊤, not, ◌&&◌, ◌||◌, List, Option, Some, None, Result, Ok, eqb, ltb, leb}
 use Rattle.limits.specs.Limits.{most_parties, most_labels, last_language, longest_word, most_records}
 use Rattle.fields.specs.Numbers.{byte_at}
 use Rattle.house_layout.specs.Layout.{last_edition, edition_of, parties_of, labels_of, language_of, longest_of, records_of, permit_kind}
 use Rattle.house_layout.specs.Reply.{refuse}
+use Rattle.house_layout.specs.declared.reply.Refusal.{Refusal}
 use Rattle.house_layout.specs.declared.reply.Refusal.TheVariants.{Again, Owner, Target, Kind, Repeat}
-use Rattle.house_layout.specs.declared.reply.Check.{Check}
-use Rattle.house_layout.specs.declared.reply.Check.TheVariants.{Accepted}
 use Rattle.house_layout.specs.declared.record.Record.{Record}
-use Rattle.house_layout.specs.declared.record.OwnerByte.{OwnerByte}
-use Rattle.house_layout.specs.declared.record.OwnerByte.TheVariants.{Missing, Party}
 
 abbrev pub within : ℕ → ℕ → ℕ → Bool
 within low high x = leb low x && leb x high
@@ -26,9 +23,9 @@ fields_in_range f =
     && leb (records_of f) most_records)))))
 
 -- 02, Ticket 2: "an owner byte other than the chain's party"; where there is none, no test looks at it
-abbrev pub foreign : ℕ → OwnerByte → Bool
-foreign u Missing = false
-foreign u (Party p) = not (eqb p u)
+abbrev pub foreign : ℕ → Option ℕ → Bool
+foreign u None = false
+foreign u (Some p) = not (eqb p u)
 
 -- a target is a party other than the chain's own
 abbrev pub legal_target : ℕ → ℕ → ℕ → Bool
@@ -40,11 +37,11 @@ legal_kind l k = ltb k l || eqb k permit_kind
 
 -- one record of party u's chain, by 01's order; 15 is "checked after 4 and before 6" (02, Ticket 2)
 -- `again`: it was reached before; `repeat`: an earlier record of the chain has its target and kind
-unfoldable pub judge_record : ℕ → ℕ → ℕ → Record → Bool → Bool → Check
+unfoldable pub judge_record : ℕ → ℕ → ℕ → Record → Bool → Bool → Result ⊤ Refusal
 judge_record n l u r again repeat =
     refuse again Again
     (refuse (foreign u r.owner) Owner
     (refuse (not (legal_target n u r.target)) Target
     (refuse (not (legal_kind l r.kind)) Kind
     (refuse repeat Repeat
-    Accepted))))
+    (Ok tt)))))

@@ -1,13 +1,11 @@
 -- Where the fields of a house file stand (01, "The house file"; 02, Ticket 2: edition 2).
 -- Only `record_size` and `owner_in` know the editions apart; every place and length is by them.
-use Rattle.std.specs.Prelude.{ℕ, ◌+◌, ◌*◌, ◌-◌, List, eqb}
+use Rattle.std.specs.Prelude.{ℕ, ◌+◌, ◌*◌, ◌-◌, List, Option, Some, None, eqb}
 use Rattle.lists.specs.Lists.{pick}
 use Rattle.limits.specs.Limits.{most_parties, most_records}
 use Rattle.fields.specs.Numbers.{byte_at, u16_at}
 use Rattle.house_layout.specs.declared.header.Header.{Header}
 use Rattle.house_layout.specs.declared.record.Record.{Record}
-use Rattle.house_layout.specs.declared.record.OwnerByte.{OwnerByte}
-use Rattle.house_layout.specs.declared.record.OwnerByte.TheVariants.{Missing, Party}
 
 -- the header's numbers: edition, n, L, language, D, R
 abbrev pub edition_of : List ℕ → ℕ
@@ -53,8 +51,8 @@ unfoldable pub record_size : ℕ → ℕ
 record_size edition = pick (eqb edition 1) plain_record owned_record
 
 -- the owner that a record says by this byte; in edition 1 there is none, it is "known only from the chain" (02, Ticket 2)
-unfoldable pub owner_in : ℕ → ℕ → OwnerByte
-owner_in edition u = pick (eqb edition 1) Missing (Party u)
+unfoldable pub owner_in : ℕ → ℕ → Option ℕ
+owner_in edition u = pick (eqb edition 1) None (Some u)
 
 -- the bytes of the header, and of a head
 abbrev pub header_size : ℕ

@@ -1,11 +1,9 @@
 -- What a check answers: accepted, or 01's refusal.
-use Rattle.std.specs.Prelude.{ℕ, Bool, true, false, List, []}
+use Rattle.std.specs.Prelude.{ℕ, Bool, true, false, ⊤, List, [], Result, Ok, Err}
 use Rattle.house_layout.specs.declared.reply.Refusal.{Refusal}
 use Rattle.house_layout.specs.declared.reply.Refusal.TheVariants.{Length, Field, Link, Again, Unreached, Target, Kind, Repeat}
 use Rattle.house_layout.specs.declared.reply.Refusal.TheVariants.{RuleList, PartyPair, GivenWord, Scratch, Inconvertible}
 use Rattle.house_layout.specs.declared.reply.Refusal.TheVariants.{Output, Owner}
-use Rattle.house_layout.specs.declared.reply.Check.{Check}
-use Rattle.house_layout.specs.declared.reply.Check.TheVariants.{Accepted, Refused}
 
 -- 01's number of a refusal ("Who can make a call refuse"); 15 is Ticket 2's of 02
 abbrev pub number_of : Refusal → ℕ
@@ -31,11 +29,11 @@ pub data Said : Type 0 where
   refusal : ℕ → Said
   values : List ℕ → Said
 
-abbrev pub said_check : Check → Said
-said_check Accepted = values []
-said_check (Refused x) = refusal (number_of x)
+abbrev pub said_check : Result ⊤ Refusal → Said
+said_check (Ok _) = values []
+said_check (Err x) = refusal (number_of x)
 
 -- refused where the test holds, otherwise what follows
-abbrev pub refuse : Bool → Refusal → Check → Check
-refuse true x k = Refused x
+abbrev pub refuse : Bool → Refusal → Result ⊤ Refusal → Result ⊤ Refusal
+refuse true x k = Err x
 refuse false x k = k

@@ -3,7 +3,7 @@ ghost use Rattle.std.specs.Prelude.{◌≡◌, ◌≤◌, length};
 ghost use Rattle.house_layout.specs.Layout.{header_of, header_size, record_size};
 ghost use Rattle.house_layout.specs.Fields.{within, fields_in_range};
 
-use fields::{u16_at, wide};
+use fields::u16_at;
 use limits::{LAST_LANGUAGE, LONGEST_WORD, MOST_LABELS, MOST_PARTIES, MOST_RECORDS};
 
 // Editions 1 and 2 are read.
@@ -38,52 +38,46 @@ pub fn read_header(file: &[u8]) -> Header
     requires { header_size ≤ length file.now }
     ensures { result ≡ header_of file.now }
 {
-    let edition = wide(file[0]);
-    let parties = wide(file[1]);
-    let labels = wide(file[2]);
-    let language = wide(file[3]);
-    let longest = wide(file[4]);
-    let records = u16_at(file, 6);
     Header {
-        edition,
-        parties,
-        labels,
-        language,
-        longest,
-        records,
+        edition: usize::from(file[0]),
+        parties: usize::from(file[1]),
+        labels: usize::from(file[2]),
+        language: usize::from(file[3]),
+        longest: usize::from(file[4]),
+        records: u16_at(file, 6),
     }
 }
 
 fn in_range(low: usize, high: usize, x: usize) -> bool
     ensures { result ≡ within low high x }
 {
-    if x < low {
-        return false;
-    }
-    x <= high
+    (low..=high).contains(&x)
 }
 
 // Whether every header field is in its range.
+#[tactic(auto, unfolding(crate::specs::Fields::fields_in_range))]
 pub fn fields_in_range(file: &[u8], h: Header) -> bool
     requires { (header_size ≤ length file.now) × (h ≡ header_of file.now) }
     ensures { result ≡ fields_in_range file.now }
 {
-    let edition = in_range(1, LAST_EDITION, h.edition);
-    let parties = in_range(1, MOST_PARTIES, h.parties);
-    let labels = in_range(1, MOST_LABELS, h.labels);
-    let language = in_range(0, LAST_LANGUAGE, h.language);
-    let longest = in_range(1, LONGEST_WORD, h.longest);
-    let zero = file[5] == 0;
-    let records = h.records <= MOST_RECORDS;
-    edition & (parties & (labels & (language & (longest & (zero & records)))))
+    in_range(1, LAST_EDITION, h.edition)
+        && in_range(1, MOST_PARTIES, h.parties)
+        && in_range(1, MOST_LABELS, h.labels)
+        && h.language <= LAST_LANGUAGE
+        && in_range(1, LONGEST_WORD, h.longest)
+        && file[5] == 0
+        && h.records <= MOST_RECORDS
 }
 
 // A record's bytes in an edition.
+#[tactic(auto, unfolding(crate::specs::Layout::record_size))]
+// Kept: an edition is a number of the header, and the definitions of a file say it as one.
 pub fn record_size(edition: usize) -> usize
     ensures { result ≡ record_size edition }
 {
     if edition == 1 {
-        return PLAIN_RECORD;
+        PLAIN_RECORD
+    } else {
+        OWNED_RECORD
     }
-    OWNED_RECORD
 }

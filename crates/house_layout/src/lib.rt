@@ -9,5 +9,5 @@ pub use header::{
     HEAD_SIZE, HEADER_SIZE, Header, LONGEST_FILE, OWNED_RECORD, fields_in_range, read_header,
     record_size,
 };
-pub use record::{OwnerByte, PERMIT_BIT, PERMIT_KIND, Record, bit_of, check_record, read_record};
-pub use reply::{Check, Refusal, number};
+pub use record::{PERMIT_BIT, PERMIT_KIND, Record, bit_of, check_record, read_record};
+pub use reply::Refusal;

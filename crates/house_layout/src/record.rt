@@ -10,8 +10,8 @@ ghost use Rattle.house_layout.specs.Fields.{foreign, legal_target, legal_kind, j
 ghost use Rattle.house_layout.specs.promises.Kinds.{bit_of};
 
 use crate::header::{HEAD_SIZE, HEADER_SIZE, Header, record_size};
-use crate::reply::{Check, Refusal};
-use fields::{u16_at, wide};
+use crate::reply::Refusal;
+use fields::u16_at;
 use masks::Row;
 
 // The kind byte of a permit, and a permit's place in a mask of kinds.
@@ -19,31 +19,25 @@ pub const PERMIT_KIND: usize = 255;
 
 pub const PERMIT_BIT: u32 = 31;
 
-// The owner that a record says; a record of edition 1 has no byte for it.
-#[derive(Clone, Copy)]
-pub enum OwnerByte {
-    Missing,
-    Party(usize),
-}
-
 #[derive(Clone, Copy)]
 pub struct Record {
     pub target: usize,
     pub kind: usize,
     pub next: usize,
-    pub owner: OwnerByte,
+    // None in edition 1, which has no byte for it.
+    pub owner: Option<usize>,
 }
 
 // The owner that the record at a place says.
-fn read_owner(file: &[u8], edition: usize, at: usize) -> OwnerByte
+#[tactic(auto, unfolding(crate::specs::Layout::owner_in, crate::specs::Layout::record_size))]
+fn read_owner(file: &[u8], edition: usize, at: usize) -> Option<usize>
     requires { at + record_size edition ≤ length file.now }
     ensures { result ≡ owner_in edition (byte_at file.now (at + 4)) }
 {
     if edition == 1 {
-        return OwnerByte::Missing;
+        return None;
     }
-    let party = wide(file[at + 4]);
-    OwnerByte::Party(party)
+    Some(usize::from(file[at + 4]))
 }
 
 // Record r of a file whose length is right; with `read_owner` the one place that knows a record's bytes.
@@ -52,15 +46,11 @@ pub fn read_record(file: &[u8], h: Header, r: usize) -> Record
     ensures { result ≡ record_of file.now r }
 {
     let at = HEADER_SIZE + HEAD_SIZE * h.parties + record_size(h.edition) * (r - 1);
-    let target = wide(file[at]);
-    let kind = wide(file[at + 1]);
-    let next = u16_at(file, at + 2);
-    let owner = read_owner(file, h.edition, at);
     Record {
-        target,
-        kind,
-        next,
-        owner,
+        target: usize::from(file[at]),
+        kind: usize::from(file[at + 1]),
+        next: u16_at(file, at + 2),
+        owner: read_owner(file, h.edition, at),
     }
 }
 
@@ -70,64 +60,52 @@ pub fn bit_of(kind: usize) -> u32
     ensures { result ≡ bit_of kind }
 {
     if kind == PERMIT_KIND {
-        return PERMIT_BIT;
+        PERMIT_BIT
+    } else {
+        kind as u32
     }
-    kind as u32
 }
 
-fn foreign_owner(u: usize, owner: OwnerByte) -> bool
+fn foreign_owner(u: usize, owner: Option<usize>) -> bool
     ensures { result ≡ foreign u owner }
 {
-    match owner {
-        OwnerByte::Missing => false,
-        OwnerByte::Party(p) => p != u,
-    }
+    owner.is_some_and(|p| p != u)
 }
 
 fn legal_target(parties: usize, u: usize, target: usize) -> bool
     ensures { result ≡ legal_target parties u target }
 {
-    if target < parties {
-        return target != u;
-    }
-    false
+    target < parties && target != u
 }
 
 fn legal_kind(labels: usize, kind: usize) -> bool
     ensures { result ≡ legal_kind labels kind }
 {
-    if kind < labels {
-        return true;
-    }
-    kind == PERMIT_KIND
+    kind < labels || kind == PERMIT_KIND
 }
 
 // The checks 4, 15, 6, 7, 8 of one record of party u's chain: `mark` is not 0 where the record was reached before, and `row` has
 // the kinds of the chain's earlier records.
-pub fn check_record(h: Header, u: usize, x: Record, mark: u8, row: Row) -> Check
+#[tactic(auto, unfolding(crate::specs::Fields::judge_record))]
+pub fn check_record(h: Header, u: usize, x: Record, mark: u8, row: Row) -> Result<(), Refusal>
     requires { (h.parties ≤ most_parties) × (h.labels ≤ most_labels) }
     ensures { result ≡ judge_record h.parties h.labels u x (not (eqb mark 0))
         (test_bit (mask_in row x.target) (bit_of x.kind)) }
 {
-    let owner = x.owner;
-    let target = x.target;
-    let foreign = foreign_owner(u, owner);
-    let legal = legal_target(h.parties, u, target);
     if mark != 0 {
-        return Check::Refused(Refusal::Again);
+        return Err(Refusal::Again);
     }
-    if foreign {
-        return Check::Refused(Refusal::Owner);
+    if foreign_owner(u, x.owner) {
+        return Err(Refusal::Owner);
     }
-    if !legal {
-        return Check::Refused(Refusal::Target);
+    if !legal_target(h.parties, u, x.target) {
+        return Err(Refusal::Target);
     }
-    let kind = x.kind;
-    if !legal_kind(h.labels, kind) {
-        return Check::Refused(Refusal::Kind);
+    if !legal_kind(h.labels, x.kind) {
+        return Err(Refusal::Kind);
     }
-    if masks::has(row.masks[target], bit_of(kind)) {
-        return Check::Refused(Refusal::Repeat);
+    if masks::has(row.masks[x.target], bit_of(x.kind)) {
+        return Err(Refusal::Repeat);
     }
-    Check::Accepted
+    Ok(())
 }

@@ -3,32 +3,32 @@
 use mathlib.Core.Path.{◌≡◌, ◌∙◌}
 use mathlib.Core.Logic.{by_cases}
 use mathlib.Core.Bool.{false}
-use mathlib.Core.List.{List}
-use Prim.Native.Nat.{ℕ, ◌+◌, ◌*◌, ◌/◌, ◌%◌, ◌<◌}
+use Prim.Native.Nat.{ℕ, ◌+◌, ◌/◌, ◌%◌, ◌<◌}
 use native.Mathlib.Decide.{ℕ_discrete}
 use native.Mathlib.Omega.{arith}
 use lib.Bits.{bit_or}
-use lib.ListN.{get_or, set, length-set}
+use lib.ListN.{set, length-set}
 use lib.Seq.{get_or-set_same, get_or-set_other}
 use Rattle.lists.proofs.Cases.{both}
 use Rattle.limits.specs.Limits.{most_parties, symbol_count}
 use Rattle.masks.specs.promises.Mask.{test_bit}
-use Rattle.masks.specs.promises.Table.{mask_in}
+use Rattle.masks.specs.promises.Table.{mask_in, mask_at}
 use Rattle.masks.specs.declared.Row.{Row}
+use Rattle.masks.specs.declared.Table.{Table}
 use Rattle.masks.proofs.BitLaws.{test_or_left, test_or_right}
 use Rattle.masks.proofs.MaskLaws.{zero_bit}
 use Rattle.letters.specs.promises.Following.{LeadsPast, AfterAdded, FollowsBelow}
 
 -- one party more: it is x, or the letters to it are added
-module _ (masks : List ℕ) (x y z letters : ℕ) (h : LeadsPast masks x y z letters) where
-  pub past_same : z ≡ x → LeadsPast masks x y (z + 1) letters
+module _ (g : Table) (x y z letters : ℕ) (h : LeadsPast g x y z letters) where
+  pub past_same : z ≡ x → LeadsPast g x y (z + 1) letters
   past_same e i c l n t = by_cases (ℕ_discrete i z) (λ q. absurd (n (q ∙ e))) (λ q. h i c (omega (arith, q)) n t)
 
-  pub past_more : LeadsPast masks x y (z + 1) (bit_or letters (get_or masks (most_parties * y + z) 0))
+  pub past_more : LeadsPast g x y (z + 1) (bit_or letters (mask_at g y z))
   past_more i c l n t =
       by_cases (ℕ_discrete i z)
-      (λ q. test_or_right letters (get_or masks (most_parties * y + z) 0) c (rw q at t))
-      (λ q. test_or_left letters (get_or masks (most_parties * y + z) 0) c (h i c (omega (arith, q)) n t))
+      (λ q. test_or_right letters (mask_at g y z) c (rw q at t))
+      (λ q. test_or_left letters (mask_at g y z) c (h i c (omega (arith, q)) n t))
 
 -- one letter more: the mask lacks it, or the letters after it are added
 module _ (row : Row) (mask after b : ℕ) (r : Row) (h : AfterAdded row mask after b r) where
@@ -61,15 +61,18 @@ module _ (row : Row) (mask after b : ℕ) (r : Row) (h : AfterAdded row mask aft
     }
 
 -- one pair more: its mask is empty, or what leads on from it is added to its letters
-module _ (masks : List ℕ) (k : ℕ) (row : Row) (h : FollowsBelow masks k row) where
-  pub follows_same : get_or masks k 0 ≡ 0 → FollowsBelow masks (k + 1) row
+module _ (g : Table) (k : ℕ) (row : Row) (h : FollowsBelow g k row) where
+  abbrev mask : ℕ
+  mask = mask_at g (k / most_parties) (k % most_parties)
+
+  pub follows_same : mask ≡ 0 → FollowsBelow g (k + 1) row
   follows_same e i z b c l s n small t u =
       by_cases (ℕ_discrete i k)
       (λ q. both (rw (q, e) at t) (zero_bit b))
       (λ q. h i z b c (omega (arith, q)) s n small t u)
 
-  pub follows_more : (after : ℕ) (r : Row) → LeadsPast masks (k / most_parties) (k % most_parties) most_parties after
-      → AfterAdded row (get_or masks k 0) after most_parties r → FollowsBelow masks (k + 1) r
+  pub follows_more : (after : ℕ) (r : Row) → LeadsPast g (k / most_parties) (k % most_parties) most_parties after
+      → AfterAdded row mask after most_parties r → FollowsBelow g (k + 1) r
   follows_more after r past a i z b c l s n small t u =
       by_cases (ℕ_discrete i k)
       (λ q. a.added b c small (rw q at t) (past z c s (λ e. n (rw q e)) (rw q at u)))

@@ -1,7 +1,7 @@
 -- What the loops that write a graph in letters keep, and that what they made is the graph in letters. Assumes nothing.
 use mathlib.Core.Path.{◌≡◌, refl, sym, ap, ◌∙◌}
 use mathlib.Core.Logic.{by_cases}
-use mathlib.Core.Bool.{true, false}
+use mathlib.Core.Bool.{true}
 use mathlib.Core.List.{List}
 use Prim.Native.Nat.{ℕ, ◌+◌, ◌-◌, ◌*◌, ◌/◌, ◌%◌, ◌^◌, ◌≤◌, ◌<◌}
 use native.Mathlib.Omega.{arith}
@@ -11,7 +11,7 @@ use lib.Dec.{eqb}
 use lib.ListN.{get_or, length, set, length-set}
 use lib.Seq.{get_or-set_same, get_or-set_other}
 use borrow.Author.Tests.{eqb-true, eq-eqb, lt-ltb, le-ltb}
-use Rattle.lists.proofs.Cases.{both, clash}
+use Rattle.lists.proofs.Cases.{both}
 use Rattle.limits.specs.Limits.{most_parties, symbol_count, mask_places, pair_numbers}
 use Rattle.masks.specs.promises.Mask.{test_bit}
 use Rattle.masks.specs.promises.Table.{mask_at}
@@ -20,28 +20,23 @@ use Rattle.masks.proofs.BitLaws.{test_code, test_or_left, test_or_right}
 use Rattle.masks.proofs.MaskLaws.{zero_bit, high_bit}
 use Rattle.letters.specs.declared.least.Least.{Least}
 use Rattle.letters.specs.declared.different.Classes.{Classes}
+use Rattle.letters.specs.declared.legend.Legend.{Legend}
+use Rattle.letters.specs.declared.written.Letters.{Letters}
 use Rattle.letters.specs.promises.Writing.{pair_mask, UsedBelow, StandsFor, LeastOf, letter_on}
-use Rattle.letters.specs.promises.Writing.{AllLeast, Roomy, Known, ClassAdded, ClassesOf, LettersIn, WrittenBelow}
-use Rattle.letters.specs.promises.Letters.{letters_graph, Classed, LeastLetter, Lettered, MaskClass, InClasses}
+use Rattle.letters.specs.promises.Writing.{AllLeast, ClassesOf, InLetters}
+use Rattle.letters.specs.promises.Letters.{Classed, LeastLetter, Lettered, MaskClass, InClasses}
 use Rattle.search.specs.promises.PairSearch.{table_graph}
-
--- what holds below k and of k holds below k + 1
-pub one_more : (P : ℕ → Type 0) (k : ℕ) → ((i : ℕ) → i < k → P i) → P k → (i : ℕ) → i < k + 1 → P i
-one_more P k f h i l = by_cases (ℕ_discrete i k) (λ e. rw e h) (λ n. f i (omega (arith, n)))
 
 -- the code's own test whether two symbols of a mask are alike
 pub same_code : (mask s r : ℕ) → bit_and (mask / 2 ^ s) 1 ≡ bit_and (mask / 2 ^ r) 1 → test_bit mask s ≡ test_bit mask r
 same_code mask s r e = sym (test_code mask s) ∙ ap (λ (x : ℕ). eqb x 1) e ∙ test_code mask r
 
 -- one pair more
-pub used_more : (g : Table) (used more k : ℕ) → more < 2 ^ mask_places → more ≡ bit_or used (pair_mask g k)
-    → UsedBelow g used k → UsedBelow g more (k + 1)
-used_more g used more k small z h = record {
-  small = small;
-  used = λ i s l e. by_cases (ℕ_discrete i k)
-      (λ q. rw z (test_or_right used (pair_mask g k) s (rw q at e)))
-      (λ q. rw z (test_or_left used (pair_mask g k) s (h.used i s (omega (arith, q)) e)));
-}
+pub used_more : (g : Table) (used k : ℕ) → UsedBelow g k used → UsedBelow g (k + 1) (bit_or used (pair_mask g k))
+used_more g used k h i s l e =
+    by_cases (ℕ_discrete i k)
+    (λ q. test_or_right used (pair_mask g k) s (rw q at e))
+    (λ q. test_or_left used (pair_mask g k) s (h i s (omega (arith, q)) e))
 
 -- a letter below `base` by its symbol, any other by its class
 module _ (symbols : List ℕ) (base : ℕ) (classes : List ℕ) (mask i : ℕ) where
@@ -115,65 +110,12 @@ least_none g symbols e = record {
 }
 
 -- a used symbol is a place of a mask
-pub used_small : (g : Table) (mask : ℕ) → UsedBelow g mask pair_numbers
+pub used_small : (g : Table) (mask : ℕ) → UsedBelow g pair_numbers mask → mask < 2 ^ mask_places
     → (k x : ℕ) → k < pair_numbers → test_bit (pair_mask g k) x ≡ true → x < symbol_count
-used_small g mask u k x l e =
+used_small g mask u small k x l e =
     by_cases (dec_lt x symbol_count)
     (λ h. h)
-    (λ h. both (u.used k x l e) (high_bit mask_places mask x u.small (omega arith)))
-
--- one mask more: it is empty or a class already,
-module _ (c : Classes) (mask : ℕ) (r : Roomy c) where
-  pub class_same : Known c mask → ClassAdded c mask c
-  class_same k = record { roomy = r; few = λ e. e; before = λ e m h. h; known = λ e. k }
-
-  -- it is put last,
-  abbrev pub with_class : Classes
-  with_class = record { few = c.few; count = c.count + 1; masks = set c.masks c.count mask }
-
-  pub class_more : c.count < symbol_count → ClassAdded c mask with_class
-  class_more l = record {
-    roomy = record { full = length-set c.masks c.count mask ∙ r.full; fits = omega arith };
-    few = λ e. e;
-    before = λ e m h. record {
-      place = h.place;
-      low = omega (arith, h.low);
-      here = get_or-set_other c.masks c.count h.place mask 0 (λ q. omega (arith, h.low)) ∙ h.here;
-    };
-    known = λ e z. record {
-      place = c.count;
-      low = omega arith;
-      here = get_or-set_same c.masks c.count mask 0 (omega (arith, r.full));
-    };
-  }
-
-  -- or there is no room
-  pub class_none : (masks : List ℕ) (count : ℕ) → Roomy (record { few = false; count = count; masks = masks })
-      → ClassAdded c mask (record { few = false; count = count; masks = masks })
-  class_none masks count k = record {
-    roomy = k;
-    few = λ e. clash (sym e);
-    before = λ e. clash (sym e);
-    known = λ e. clash (sym e);
-  }
-
--- the masks of one pair more
-pub classes_more : (g : Table) (k : ℕ) (c r : Classes) → ClassesOf g k c → ClassAdded c (pair_mask g k) r → ClassesOf g (k + 1) r
-classes_more g k c r h a = record {
-  roomy = a.roomy;
-  known = λ e. one_more _ k (λ i l z. a.before e _ (h.known (a.few e) i l z)) (a.known e);
-}
-
--- one mask more is written
-pub written_more : (g : Table) (symbols : List ℕ) (base : ℕ) (classes : List ℕ) (end k : ℕ) (masks : List ℕ) (r : ℕ)
-    → WrittenBelow g symbols base classes end k masks → k < pair_numbers
-    → LettersIn symbols base classes end (pair_mask g k) r → WrittenBelow g symbols base classes end (k + 1) (set masks k r)
-written_more g symbols base classes end k masks r h l w = record {
-  full = length-set masks k r ∙ h.full;
-  written = λ i b. by_cases (ℕ_discrete i k)
-      (λ e j. rw e (ap (λ (x : ℕ). test_bit x j) (get_or-set_same masks k r 0 (omega (arith, h.full))) ∙ w j))
-      (λ n j. ap (λ (x : ℕ). test_bit x j) (get_or-set_other masks k i r 0 n) ∙ h.written i (omega (arith, n)) j);
-}
+    (λ h. both (u k x l e) (high_bit mask_places mask x small (omega arith)))
 
 -- pair (u, v) has number 32u + v
 pair_mask_lem : (g : Table) (u v : ℕ) → v < most_parties → pair_mask g (most_parties * u + v) ≡ mask_at g u v
@@ -183,104 +125,91 @@ pair_mask_lem g u v h =
     rw (q, r)
 
 -- the letters that were written, of which those from the base on are classes
-module _ (g : Table) (symbols : List ℕ) (base end : ℕ) (c : Classes) (masks : List ℕ) (classes : ClassesOf g pair_numbers c)
-    (few : c.few ≡ true) (all : end ≡ base + c.count)
-    (written : WrittenBelow g symbols base c.masks end pair_numbers masks) (n : ℕ) (parties : n ≤ most_parties) where
-  -- the pair of two parties: its number, and its mask in letters
-  numbered : (u v : ℕ) → u < n → v < n → most_parties * u + v < pair_numbers
-  numbered u v a b = omega arith
-
-  letter_at : (u v i : ℕ) → u < n → v < n → i < end
-      → test_bit (get_or masks (most_parties * u + v) 0) i ≡ letter_on symbols base c.masks (mask_at g u v) i
-  letter_at u v i a b h =
-      written.written (most_parties * u + v) (numbered u v a b) i ∙ rw (lt-ltb i end h, pair_mask_lem g u v (omega arith))
+module _ {g : Table} {l : Legend} {b : ℕ} {r : Letters} (made : InLetters g l b r) (c : Classes) (classes : ClassesOf g pair_numbers c)
+    (same : l.classes ≡ c.masks) (all : l.end ≡ l.base + c.count) (n : ℕ) (parties : n ≤ most_parties) where
+  letter_at : (u v i : ℕ) → u < n → v < n → i < l.end
+      → test_bit (mask_at r.graph u v) i ≡ letter_on l.symbols l.base l.classes (mask_at g u v) i
+  letter_at u v i p q h = made.written u (omega arith) v (omega arith) i ∙ rw (lt-ltb i l.end h)
 
   -- of the letters from the base on
   high : (u v k : ℕ) → u < n → v < n → k < c.count
-      → test_bit (get_or masks (most_parties * u + v) 0) (base + k) ≡ eqb (bit_or (mask_at g u v) (get_or c.masks k 0)) (mask_at g u v)
+      → test_bit (mask_at r.graph u v) (l.base + k) ≡ eqb (bit_or (mask_at g u v) (get_or c.masks k 0)) (mask_at g u v)
   high u v k a b h =
-      let e : base + k - base ≡ k = omega arith in
-      letter_at u v (base + k) a b (omega arith)
-      ∙ letter_high symbols base c.masks (mask_at g u v) (base + k) (omega arith)
-      ∙ rw e
+      let e : l.base + k - l.base ≡ k = omega arith in
+      letter_at u v (l.base + k) a b (omega arith)
+      ∙ letter_high l.symbols l.base l.classes (mask_at g u v) (l.base + k) (omega arith)
+      ∙ rw (e, same)
 
   mask_class : (u v s : ℕ) → u < n → v < n → test_bit (mask_at g u v) s ≡ true
-      → (j : ℕ) × MaskClass (table_graph n g) (letters_graph n masks) base end u v j
+      → (j : ℕ) × MaskClass (table_graph n g) (table_graph n r.graph) l.base l.end u v j
   mask_class u v s a b e =
       let some : pair_mask g (most_parties * u + v) ≡ 0 → ⊥ =
       λ z.
       let none : mask_at g u v ≡ 0 = sym (pair_mask_lem g u v (omega arith)) ∙ z in
       both e (ap (λ (m : ℕ). test_bit m s) none ∙ zero_bit s) in
-      let k = classes.known few (most_parties * u + v) (numbered u v a b) some in
-      let same : get_or c.masks k.place 0 ≡ mask_at g u v = k.here ∙ pair_mask_lem g u v (omega arith) in (
-        base + k.place,
+      let k = classes (most_parties * u + v) (omega arith) some in
+      let here : get_or c.masks k.place 0 ≡ mask_at g u v = k.here ∙ pair_mask_lem g u v (omega arith) in (
+        l.base + k.place,
         record {
           low = omega arith;
           high = omega (arith, k.low, all);
-          here = high u v k.place a b k.low ∙ eq-eqb _ _ (ap (bit_or (mask_at g u v)) same ∙ or_self (mask_at g u v));
-          all = λ x y r p q o m.
+          here = high u v k.place a b k.low ∙ eq-eqb _ _ (ap (bit_or (mask_at g u v)) here ∙ or_self (mask_at g u v));
+          all = λ x y z p q o m.
               let within : bit_or (mask_at g x y) (get_or c.masks k.place 0) ≡ mask_at g x y =
               eqb-true _ _ (sym (high x y k.place p q k.low) ∙ o) in
-              rw within at (test_or_right (mask_at g x y) (get_or c.masks k.place 0) r (rw same m));
+              rw within at (test_or_right (mask_at g x y) (get_or c.masks k.place 0) z (rw here m));
         },
       )
 
--- what was made of classes alone is the graph in classes
-pub in_classes_lem : (g : Table) (symbols : List ℕ) (c : Classes) (masks : List ℕ) → ClassesOf g pair_numbers c → c.few ≡ true
-    → WrittenBelow g symbols 0 c.masks c.count pair_numbers masks → (n : ℕ) → n ≤ most_parties
-    → InClasses (table_graph n g) (letters_graph n masks) c.count
-in_classes_lem g symbols c masks classes few written n parties = record {
-  parties = refl;
-  few = classes.roomy.fits;
-  classed = mask_class g symbols 0 c.count c masks classes few (omega arith) written n parties;
-}
-
--- what was made is the graph in letters
-module _ (g : Table) (l : Least) (c : Classes) (masks : List ℕ) (least : AllLeast g l) (classes : ClassesOf g pair_numbers c)
-    (few : c.few ≡ true) (room : l.count + c.count ≤ symbol_count)
-    (written : WrittenBelow g l.symbols l.count c.masks (l.count + c.count) pair_numbers masks)
-    (n : ℕ) (parties : n ≤ most_parties) where
-  plain : (u v i : ℕ) → u < n → v < n → i < l.count
-      → test_bit (get_or masks (most_parties * u + v) 0) i ≡ test_bit (mask_at g u v) (get_or l.symbols i 0)
-  plain u v i a b h =
-      letter_at g l.symbols l.count (l.count + c.count) c masks classes few refl written n parties u v i a b (omega arith)
-      ∙ letter_low l.symbols l.count c.masks (mask_at g u v) i h
-
-  stands : (u v s : ℕ) → u < n → v < n → test_bit (mask_at g u v) s ≡ true
-      → (i : ℕ) × LeastLetter (table_graph n g) l.symbols l.count s i
-  stands u v s a b e =
-      let k : most_parties * u + v < pair_numbers = omega arith in
-      let here : test_bit (pair_mask g (most_parties * u + v)) s ≡ true = rw (pair_mask_lem g u v (omega arith)) e in
-      let r = least.least.stands (most_parties * u + v) s k (least.below (most_parties * u + v) s k here) here in (
-        r.0,
-        record {
-          low = r.1.low;
-          least = r.1.least;
-          same = λ x y p q. rw (pair_mask_lem g x y (omega arith)) at (r.1.same (most_parties * x + y) (omega arith));
-        },
-      )
-
-  classed : Classed (letters_graph n masks) l.count (l.count + c.count)
-  classed u v i a b h e =
-      let here : test_bit (mask_at g u v) (get_or l.symbols i 0) ≡ true = sym (plain u v i a b h) ∙ e in
-      let k = mask_class g l.symbols l.count (l.count + c.count) c masks classes few refl written n parties u v _ a b here in (
-        k.0,
-        record {
-          low = k.1.low;
-          high = k.1.high;
-          here = k.1.here;
-          all = λ x y j p q w o m. plain x y j p q w ∙ k.1.all x y (get_or l.symbols j 0) p q o (sym (plain u v j a b w) ∙ m);
-        },
-      )
-
-  pub lettered : Lettered (table_graph n g) (letters_graph n masks) l.symbols l.count (l.count + c.count)
-  lettered = record {
+  -- what was made of classes alone is the graph in classes
+  pub in_classes_lem : l.base ≡ 0 → InClasses (table_graph n g) (table_graph n r.graph) r.end
+  in_classes_lem zero = record {
     parties = refl;
-    order = omega arith;
-    few = room;
-    below = λ i h. least.least.below i h;
-    ascending = least.least.ascending;
-    plain = plain;
-    stands = stands;
-    classed = classed;
+    few = rw made.end l.few;
+    classed = rw made.end (rw zero at mask_class);
   }
+
+  -- what was made of symbols and classes is the graph in letters
+  module _ (s : Least) (least : AllLeast g s) (base : l.base ≡ s.count) (symbols : l.symbols ≡ s.symbols) where
+    plain : (u v i : ℕ) → u < n → v < n → i < l.base → test_bit (mask_at r.graph u v) i ≡ test_bit (mask_at g u v) (get_or l.symbols i 0)
+    plain u v i a b h =
+        letter_at u v i a b (omega (arith, l.order)) ∙ letter_low l.symbols l.base l.classes (mask_at g u v) i h
+
+    stands : (u v x : ℕ) → u < n → v < n → test_bit (mask_at g u v) x ≡ true
+        → (i : ℕ) × LeastLetter (table_graph n g) l.symbols l.base x i
+    stands u v x a b e =
+        let k : most_parties * u + v < pair_numbers = omega arith in
+        let here : test_bit (pair_mask g (most_parties * u + v)) x ≡ true = rw (pair_mask_lem g u v (omega arith)) e in
+        let r = least.least.stands (most_parties * u + v) x k (least.below (most_parties * u + v) x k here) here in (
+          r.0,
+          record {
+            low = rw base r.1.low;
+            least = rw symbols r.1.least;
+            same = λ y z p q. rw symbols (rw (pair_mask_lem g y z (omega arith)) at (r.1.same (most_parties * y + z) (omega arith)));
+          },
+        )
+
+    classed : Classed (table_graph n r.graph) l.base l.end
+    classed u v i a b h e =
+        let here : test_bit (mask_at g u v) (get_or l.symbols i 0) ≡ true = sym (plain u v i a b h) ∙ e in
+        let k = mask_class u v _ a b here in (
+          k.0,
+          record {
+            low = k.1.low;
+            high = k.1.high;
+            here = k.1.here;
+            all = λ x y j p q w o m. plain x y j p q w ∙ k.1.all x y (get_or l.symbols j 0) p q o (sym (plain u v j a b w) ∙ m);
+          },
+        )
+
+    pub lettered : Lettered (table_graph n g) (table_graph n r.graph) r.symbols l.base r.end
+    lettered = rw (made.symbols, made.end) (record {
+      parties = refl;
+      order = l.order;
+      few = l.few;
+      below = l.below;
+      ascending = rw (base, symbols) least.least.ascending;
+      plain = plain;
+      stands = stands;
+      classed = classed;
+    })

@@ -1,24 +1,22 @@
 // The letters that may follow each other: on a path the one leads from a party to a second, the other on from there to a third.
-ghost use Rattle.std.specs.Prelude.{◌≡◌, length, ◌<◌};
-ghost use Rattle.limits.specs.Limits.{most_parties, pair_numbers};
+ghost use Rattle.std.specs.Prelude.{◌<◌};
+ghost use Rattle.limits.specs.Limits.{most_parties};
 ghost use Rattle.letters.specs.promises.Following.{LeadsPast, AfterAdded, Follows};
 
 use crate::MOST_LETTERS;
 use limits::{MOST_PARTIES, PAIR_NUMBERS};
-use masks::{Row, empty_row, has};
+use masks::{Row, Table, empty_row, has};
 
 // The letters that lead from y to a party other than x.
-fn letters_past(masks: &[u32], x: usize, y: usize) -> u32
-    requires { (length masks.now ≡ pair_numbers) × (y < most_parties) }
-    ensures { LeadsPast masks.now x y most_parties result }
+fn letters_past(g: &Table, x: usize, y: usize) -> u32
+    requires { y < most_parties }
+    ensures { LeadsPast g.now x y most_parties result }
 {
     let mut letters: u32 = 0;
-    let mut z: usize = 0;
-    while z < MOST_PARTIES {
+    for z in 0..MOST_PARTIES {
         if z != x {
-            letters = letters | masks[MOST_PARTIES * y + z];
+            letters |= g.rows[y].masks[z];
         }
-        z += 1;
     }
     letters
 }
@@ -28,30 +26,26 @@ fn with_after(row: Row, mask: u32, after: u32) -> Row
     ensures { AfterAdded row mask after most_parties result }
 {
     let mut more = row;
-    let mut b: usize = 0;
-    while b < MOST_LETTERS {
+    for b in 0..MOST_LETTERS {
         if has(mask, b as u32) {
-            more.masks[b] = more.masks[b] | after;
+            more.masks[b] |= after;
         }
-        b += 1;
     }
     more
 }
 
 // For each letter a mask with those that may follow it.
-pub fn followers(masks: &[u32]) -> Row
-    requires { length masks.now ≡ pair_numbers }
-    ensures { Follows masks.now result }
+pub fn followers(g: &Table) -> Row
+    ensures { Follows g.now result }
 {
     let mut row = empty_row();
-    let mut k: usize = 0;
-    while k < PAIR_NUMBERS {
-        let mask = masks[k];
+    for k in 0..PAIR_NUMBERS {
+        let x = k / MOST_PARTIES;
+        let y = k % MOST_PARTIES;
+        let mask = g.rows[x].masks[y];
         if mask != 0 {
-            let after = letters_past(masks, k / MOST_PARTIES, k % MOST_PARTIES);
-            row = with_after(row, mask, after);
+            row = with_after(row, mask, letters_past(g, x, y));
         }
-        k += 1;
     }
     row
 }

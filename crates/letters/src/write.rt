@@ -1,142 +1,69 @@
-// A graph written in letters.
-ghost use Rattle.limits.specs.Limits.{pair_numbers};
-ghost use Rattle.letters.specs.promises.Writing.{LettersIn, LettersQuery, WrittenBelow, NoLetters, LettersMade, ClassesMade};
+// A graph in letters of two kinds: of symbols with classes of them, and of classes alone.
+ghost use Rattle.std.specs.Prelude.{◌≤◌, IfSome};
+ghost use Rattle.letters.specs.promises.Writing.{InLetters, LettersMade, ClassesMade};
 
 use crate::MOST_LETTERS;
-use crate::different::{classes_of, nested};
+use crate::different::Classes;
 use crate::follow::followers;
-use crate::least::least_symbols;
-use limits::{MOST_PARTIES, PAIR_NUMBERS};
-use masks::{Row, Table, empty_row};
+use crate::least::Least;
+use crate::legend::Legend;
+use crate::written::Letters;
+use masks::Table;
 
-// A graph in letters, if they are few enough for a mask: those below `base` stand for symbols, those from there to below `end` are classes.
-// The mask of (u, v) stands at 32u + v. `follow` has for each letter those that may follow it.
-#[derive(Clone, Copy)]
-pub struct Letters {
-    pub few: bool,
-    pub base: usize,
-    pub end: usize,
-    pub symbols: [u8; MOST_LETTERS],
-    pub masks: [u32; PAIR_NUMBERS],
-    pub follow: Row,
-}
-
-// A mask in letters.
-fn letters_in(
-    mask: u32,
-    symbols: [u8; MOST_LETTERS],
-    base: usize,
-    classes: [u32; MOST_LETTERS],
-    end: usize,
-) -> u32
-    requires { LettersQuery symbols base end }
-    ensures { LettersIn symbols base classes end mask result }
+// The graph in the legend's letters, of which words have those below `base`.
+fn in_letters(g: &Table, legend: &Legend, base: usize) -> Letters
+    requires { base ≤ legend.now.end }
+    ensures { InLetters g.now legend.now base result }
 {
-    let mut letters: u32 = 0;
-    let mut i: usize = 0;
-    while i < end {
-        if i < base {
-            if masks::has(mask, symbols[i] as u32) {
-                letters = masks::with(letters, i as u32);
-            }
-        } else {
-            if mask | classes[i - base] == mask {
-                letters = masks::with(letters, i as u32);
-            }
-        }
-        i += 1;
-    }
-    letters
-}
-
-// The masks of a graph, each in letters.
-fn write(
-    g: Table,
-    symbols: [u8; MOST_LETTERS],
-    base: usize,
-    classes: [u32; MOST_LETTERS],
-    end: usize,
-) -> [u32; PAIR_NUMBERS]
-    requires { LettersQuery symbols base end }
-    ensures { WrittenBelow g symbols base classes end pair_numbers result }
-{
-    let mut masks = [0u32; PAIR_NUMBERS];
-    let mut k: usize = 0;
-    while k < PAIR_NUMBERS {
-        let row = g.rows[k / MOST_PARTIES];
-        masks[k] = letters_in(row.masks[k % MOST_PARTIES], symbols, base, classes, end);
-        k += 1;
-    }
-    masks
-}
-
-// What is returned where letters are too many.
-fn no_letters() -> Letters
-    ensures { NoLetters result }
-{
+    let graph = legend.write(g);
+    let follow = followers(&graph);
+    let symbols = legend.symbols;
     Letters {
-        few: false,
-        base: 0,
-        end: 0,
-        symbols: [0u8; MOST_LETTERS],
-        masks: [0u32; PAIR_NUMBERS],
-        follow: empty_row(),
+        base,
+        end: legend.end,
+        symbols,
+        graph,
+        follow,
     }
 }
 
-// The graph in letters, if no class is contained in another: else words of classes are mostly more than those of symbols.
-// Where letters are too many, nothing is promised of it.
-pub fn letters_of(g: Table) -> Letters
-    ensures { LettersMade g result }
+// The graph in letters, those of words for symbols, if no class is contained in another: else words of classes are mostly more than those
+// of symbols. None too where the letters are more than a mask has room for.
+pub fn letters_of(g: &Table) -> Option<Letters>
+    ensures { IfSome result (LettersMade g.now) }
 {
-    let l = least_symbols(g);
-    let c = classes_of(g);
-    let base = l.count;
-    let end = base + c.count;
-    if c.few {
-        if end <= MOST_LETTERS {
-            if !nested(c) {
-                let symbols = l.symbols;
-                let classes = c.masks;
-                let masks = write(g, symbols, base, classes, end);
-                let follow = followers(&masks);
-                return Letters {
-                    few: true,
-                    base,
-                    end,
-                    symbols,
-                    masks,
-                    follow,
-                };
-            }
-        }
+    let c = Classes::of(g)?;
+    let l = Least::of(g);
+    let end = l.count + c.count;
+    if end > MOST_LETTERS || c.nested() {
+        return None;
     }
-    no_letters()
+    let symbols = l.symbols;
+    let classes = c.masks;
+    let legend = Legend {
+        base: l.count,
+        end,
+        symbols,
+        classes,
+    };
+    Some(in_letters(g, &legend, l.count))
 }
 
 // The graph in classes alone, if they are no more than the symbols: else words of classes are mostly more than those of symbols.
-// Where they are too many, nothing is promised of it.
-pub fn class_letters(g: Table) -> Letters
-    ensures { ClassesMade g result }
+// None too where they are more than a mask has room for.
+pub fn class_letters(g: &Table) -> Option<Letters>
+    ensures { IfSome result (ClassesMade g.now) }
 {
-    let l = least_symbols(g);
-    let c = classes_of(g);
-    let end = c.count;
-    if c.few {
-        if end <= l.count {
-            let symbols = l.symbols;
-            let classes = c.masks;
-            let masks = write(g, symbols, 0, classes, end);
-            let follow = followers(&masks);
-            return Letters {
-                few: true,
-                base: 0,
-                end,
-                symbols,
-                masks,
-                follow,
-            };
-        }
+    let c = Classes::of(g)?;
+    if c.count > Least::of(g).count {
+        return None;
     }
-    no_letters()
+    let classes = c.masks;
+    let legend = Legend {
+        base: 0,
+        end: c.count,
+        symbols: [0; MOST_LETTERS],
+        classes,
+    };
+    Some(in_letters(g, &legend, c.count))
 }

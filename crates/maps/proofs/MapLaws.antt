@@ -1,9 +1,12 @@
 -- A map that passes the check takes a pair to one that has at least as many paths with each word.
 -- While the check goes on: the images seen so far are those of the mask.
-use mathlib.Core.Path.{◌≡◌, sym, ap, ◌∙◌}
+use mathlib.Core.Path.{◌≡◌, sym, ◌∙◌}
 use mathlib.Core.Bool.{true, false}
 use mathlib.Core.Logic.{by_cases}
-use Prim.Native.Nat.{ℕ, ◌+◌, ◌<◌}
+use Prim.Native.Nat.{ℕ, zero, suc, ◌+◌, ◌<◌}
+use Rattle.std.proofs.Common.{List, None, Some, replicate}
+use lib.ListN.{length, get_or, set}
+use lib.Seq.{get_or-set_same, get_or-set_other}
 use native.Mathlib.Omega.{arith}
 use native.Mathlib.Decide.{dec_lt}
 use Rattle.lists.proofs.Cases.{both}
@@ -13,42 +16,59 @@ use Rattle.masks.proofs.BitLaws.{test_with_same, test_with_other}
 use Rattle.rebac.specs.Matter.{pair}
 use Rattle.rebac.proofs.CarriedLaws.{count_carried}
 use Rattle.search.specs.promises.PairSearch.{table_graph}
-use Rattle.maps.specs.promises.Maps.{image_of, OneToOne, CarriesSymbols, Covered}
+use Rattle.maps.specs.promises.Images.{OneToOne}
+use Rattle.maps.specs.promises.Maps.{image_of, CarriesSymbols, Covered}
 use Rattle.maps.specs.declared.carry.Map.{Map}
 
+-- where no party has an image, none has one
+pub none_has_image : (n u v : ℕ) → get_or (replicate n None) u None ≡ Some v → ⊥
+none_has_image zero u v e = cc
+none_has_image (suc n) zero v e = cc
+none_has_image (suc n) (suc u) v e = none_has_image n u v e
+
 -- the parties below u have images below n, no two the same, all in the mask
-pub record Used (n : ℕ) (m : Map) (used u : ℕ) : Type 0 where
-  pub inside : (x : ℕ) → x < u → image_of m x < n
-  pub kept : (x : ℕ) → x < u → test_bit used (image_of m x) ≡ true
-  pub one : (x y : ℕ) → x < u → y < u → image_of m x ≡ image_of m y → x ≡ y
+pub record Used (n : ℕ) (image : List ℕ) (used u : ℕ) : Type 0 where
+  pub inside : (x : ℕ) → x < u → get_or image x 0 < n
+  pub kept : (x : ℕ) → x < u → test_bit used (get_or image x 0) ≡ true
+  pub one : (x y : ℕ) → x < u → y < u → get_or image x 0 ≡ get_or image y 0 → x ≡ y
 
-pub used_none : (n : ℕ) (m : Map) → Used n m 0 0
-used_none n m = record { inside = λ x h. absurd (omega arith); kept = λ x h. absurd (omega arith); one = λ x y h k. absurd (omega arith) }
+pub used_none : (n : ℕ) (image : List ℕ) → Used n image 0 0
+used_none n image = record { inside = λ x h. absurd (omega arith); kept = λ x h. absurd (omega arith); one = λ x y h k. absurd (omega arith) }
 
-module _ (n : ℕ) (m : Map) (used u : ℕ) (i : Used n m used u) (h : image_of m u < n) (e : test_bit used (image_of m u) ≡ false) where
+-- one more image, w for u, which the mask doesn't have
+module _ (n : ℕ) (image : List ℕ) (used u w : ℕ) (i : Used n image used u) (h : w < n) (e : test_bit used w ≡ false) (s : u < length image) where
   -- a party below u + 1 is one below u, or u itself
   below : {G : Type 0} (x : ℕ) → x < u + 1 → (x < u → G) → (x ≡ u → G) → G
   below x l f g = by_cases (dec_lt x u) f (λ z. g (omega (arith, z)))
 
-  fresh : (x : ℕ) → x < u → image_of m x ≡ image_of m u → ⊥
-  fresh x l q = both (rw q at (i.kept x l)) e
+  old : (x : ℕ) → x < u → get_or (set image u w) x 0 ≡ get_or image x 0
+  old x l = get_or-set_other image u x w 0 (λ q. absurd (omega (arith, q)))
 
-  pub used_with : Used n m (with_bit used (image_of m u)) (u + 1)
+  new : get_or (set image u w) u 0 ≡ w
+  new = get_or-set_same image u w 0 s
+
+  fresh : (x : ℕ) → x < u → get_or (set image u w) x 0 ≡ w → ⊥
+  fresh x l q = both (rw (sym (old x l) ∙ q) at (i.kept x l)) e
+
+  pub used_with : Used n (set image u w) (with_bit used w) (u + 1)
   used_with = record {
-    inside = λ x l. below x l (i.inside x) (λ q. rw q h);
+    inside = λ x l. below x l (λ k. rw (old x k) (i.inside x k)) (λ q. rw (q, new) h);
     kept = λ x l. below x l
-        (λ k. test_with_other used (image_of m u) (image_of m x) (fresh x k) ∙ i.kept x k)
-        (λ q. rw q (test_with_same used (image_of m u)));
+        (λ k. test_with_other used w _ (fresh x k) ∙ rw (old x k) (i.kept x k))
+        (λ q. rw (q, new) (test_with_same used w));
     one = λ x y l k q. below x l
-        (λ a. below y k (λ b. i.one x y a b q) (λ b. absurd (fresh x a (q ∙ ap (image_of m) b))))
-        (λ a. below y k (λ b. absurd (fresh y b (sym q ∙ ap (image_of m) a))) (λ b. a ∙ sym b));
+        (λ a. below y k
+        (λ b. i.one x y a b (sym (old x a) ∙ q ∙ old y b))
+        (λ b. absurd (fresh x a (q ∙ rw b new))))
+        (λ a. below y k (λ b. absurd (fresh y b (sym q ∙ rw a new))) (λ b. a ∙ sym b));
   }
 
-pub used_all : (n : ℕ) (m : Map) (used : ℕ) → Used n m used n → OneToOne n m
-used_all n m used i = record { inside = i.inside; one = i.one }
+pub used_all : (n : ℕ) (image : List ℕ) (used : ℕ) → Used n image used n → OneToOne n image
+used_all n image used i = record { inside = i.inside; one = i.one }
 
-pub map_covers : (n : ℕ) (t : Table) (m : Map) → CarriesSymbols n t m
-    → (first second u v : ℕ) → first < n → image_of m first ≡ u → image_of m second ≡ v → Covered n t (pair first second) (pair u v)
-map_covers n t m c first second u v h p q cap w =
-    let o = c.one_to_one in
-    rw (← p, ← q) (count_carried (table_graph n t) (image_of m) o.inside o.one c.carry (pair first second) w h cap)
+pub map_covers : (t : Table) (m : Map) → CarriesSymbols t m
+    → (first second u v : ℕ) → first < m.parties → image_of m first ≡ u → image_of m second ≡ v
+    → Covered m.parties t (pair first second) (pair u v)
+map_covers t m c first second u v h p q cap w =
+    let o = m.one_to_one in
+    rw (← p, ← q) (count_carried (table_graph m.parties t) (image_of m) o.inside o.one c (pair first second) w h cap)

@@ -1,70 +1,66 @@
-// The check of a map of parties.
-ghost use Rattle.std.specs.Prelude.{◌≡◌, true, ◌≤◌};
+// The one-to-one maps of parties, and the check that one carries every symbol.
+ghost use Rattle.std.specs.Prelude.{◌≡◌, true, ◌≤◌, ◌<◌, IfSome};
 ghost use Rattle.limits.specs.Limits.{most_parties};
-ghost use Rattle.maps.specs.promises.Maps.{OneToOne, RowCarried, CarriesSymbols};
+ghost use Rattle.maps.specs.promises.Images.{OneToOne};
 
 use limits::MOST_PARTIES;
 use masks::{Row, Table};
 
-// The image of each party.
+// A one-to-one map of the parties below `parties`: the image of each is one of them, no two the same.
 #[derive(Clone, Copy)]
 pub struct Map {
+    pub parties: usize,
     pub image: [u8; MOST_PARTIES],
+    ghost within: { parties ≤ most_parties },
+    ghost one_to_one: { OneToOne parties image },
 }
 
-// Whether the parties below n have images below n, no two the same.
-fn one_to_one(m: Map, n: usize) -> bool
-    requires { n ≤ most_parties }
-    ensures { result ≡ true → OneToOne n m }
-{
-    let mut used: u32 = 0;
-    let mut u: usize = 0;
-    while u < n {
-        let x = m.image[u] as usize;
-        if n <= x {
-            return false;
-        }
-        if masks::has(used, x as u32) {
-            return false;
-        }
-        used = masks::with(used, x as u32);
-        u += 1;
-    }
-    true
-}
+impl Map {
+    ghost use Rattle.maps.specs.promises.Maps.{image_of, RowCarried, CarriesSymbols};
 
-// Whether the masks of a party's row, to each party below n, are contained in those of its image's row, to that party's image.
-fn row_carried(row: Row, image: Row, m: Map, n: usize) -> bool
-    requires { (n ≤ most_parties) × OneToOne n m }
-    ensures { result ≡ true → RowCarried row image m n }
-{
-    let mut v: usize = 0;
-    while v < n {
-        let to = m.image[v] as usize;
-        let s = row.masks[v];
-        if s & image.masks[to] != s {
-            return false;
+    // The map with these images, where each party below n has one, and no two the same.
+    pub fn one_to_one(images: &[Option<u8>; MOST_PARTIES], n: usize) -> Option<Map>
+        requires { n ≤ most_parties }
+        ensures { IfSome result (λ m. m.parties ≡ n) }
+    {
+        let mut image = [0u8; MOST_PARTIES];
+        let mut used: u32 = 0;
+        for u in 0..n {
+            let x = images[u]?;
+            if n <= x as usize {
+                return None;
+            }
+            if masks::has(used, x as u32) {
+                return None;
+            }
+            used = masks::with(used, x as u32);
+            image[u] = x;
         }
-        v += 1;
+        Some(Map { parties: n, image })
     }
-    true
-}
 
-// Whether the map is one-to-one on the parties below n and carries every symbol.
-pub fn carries(g: Table, n: usize, m: Map) -> bool
-    requires { n ≤ most_parties }
-    ensures { result ≡ true → CarriesSymbols n g m }
-{
-    if !one_to_one(m, n) {
-        return false;
+    pub fn image_of(&self, u: usize) -> usize
+        requires { u < self.now.parties }
+        ensures within { result < self.now.parties }
+        ensures value { result ≡ image_of self.now u }
+    {
+        self.image[u] as usize
     }
-    let mut u: usize = 0;
-    while u < n {
-        let to = m.image[u] as usize;
-        if !row_carried(g.rows[u], g.rows[to], m, n) {
-            return false;
-        }
-        u += 1;
+
+    // Whether the masks of a party's row are contained in those of its image's row, each in that to the image of its own party.
+    fn row_carried(&self, row: &Row, image: &Row) -> bool
+        ensures { result ≡ true → RowCarried row.now image.now self.now }
+    {
+        (0..self.parties).all(|v| {
+            let s = row.masks[v];
+            s & image.masks[self.image_of(v)] == s
+        })
     }
-    true
+
+    // Whether the map carries every symbol.
+    pub fn carries(&self, g: &Table) -> bool
+        ensures { result ≡ true → CarriesSymbols g.now self.now }
+    {
+        (0..self.parties).all(|u| self.row_carried(&g.rows[u], &g.rows[self.image_of(u)]))
+    }
 }

@@ -48,7 +48,7 @@ pub fn full_row() -> Row
     ensures { (u v : ℕ) → u < most_parties → v < mask_places → test_bit (mask_in result u) v ≡ true }
 {
     Row {
-        masks: [4294967295u32; MOST_PARTIES],
+        masks: [u32::MAX; MOST_PARTIES],
     }
 }
 
@@ -87,10 +87,8 @@ pub fn common(a: Row, b: Row) -> Row
     ensures { (u v : ℕ) → test_bit (mask_in result u) v ≡ (test_bit (mask_in a u) v && test_bit (mask_in b u) v) }
 {
     let mut row = a;
-    let mut u: usize = 0;
-    while u < MOST_PARTIES {
-        row.masks[u] = a.masks[u] & b.masks[u];
-        u += 1;
+    for u in 0..MOST_PARTIES {
+        row.masks[u] &= b.masks[u];
     }
     row
 }

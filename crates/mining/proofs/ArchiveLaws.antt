@@ -25,8 +25,9 @@ use Rattle.rebac.proofs.Conversion.{score_one, pair_words_out, meets_one}
 use Rattle.graph.specs.declared.Archive.{Archive}
 use Rattle.graph.specs.promises.Archive.{Shows}
 use Rattle.search.specs.promises.PairSearch.{table_graph}
-use Rattle.words.specs.promises.Next.{NextAs}
-use Rattle.words.specs.declared.next.Next.{Next}
+use Rattle.search.specs.declared.word.ShortWord.{ShortWord}
+use Rattle.words.specs.promises.Next.{WordAs}
+use Rattle.std.specs.Prelude.{Option as Maybe}
 use Rattle.paths.proofs.CallLaws.{shown_graph}
 use Rattle.rule_bytes.specs.promises.Reading.{FitWord, FitTerm}
 use Rattle.rule_bytes.proofs.PlaceLaws.{word_legal_fits}
@@ -90,7 +91,7 @@ module _ {M : Matter} {a : Archive} (h : Shows M a) where
   }
 
   -- the first lacked word and the first word, over the archive's conversion
-  pub lacked_shown : (p q : Pair) (r : Next) → NextAs (first_by (lacks (problem_of M) p q) (pair_words M p)) r
-      → NextAs (first_by (lacks (problem_in a) p q) (words_of (problem_in a) p)) r
+  pub lacked_shown : (p q : Pair) (r : Maybe ShortWord) → WordAs (first_by (lacks (problem_of M) p q) (pair_words M p)) r
+      → WordAs (first_by (lacks (problem_in a) p q) (words_of (problem_in a) p)) r
   unfolding pair_words
   lacked_shown p q r e = rw problem_shown e

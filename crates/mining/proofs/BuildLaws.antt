@@ -4,6 +4,7 @@ use mathlib.Core.Path.{◌≡◌, refl, sym, ap, ◌∙◌}
 use mathlib.Core.Bool.{Bool, true, false, not, ◌&&◌}
 use mathlib.Core.List.{List, [], ◌∷◌, ◌++◌}
 use mathlib.Core.Option.{Option, none, some}
+use Rattle.std.specs.Prelude.{Ok, Err}
 use Prim.Native.Nat.{ℕ, ◌+◌, ◌*◌, ◌/◌, ◌%◌, ◌≤◌, ◌<◌}
 use native.Mathlib.Omega.{arith}
 use lib.ListN.{length, take, drop, length-append}
@@ -41,7 +42,7 @@ use Rattle.rule_bytes.proofs.PlaceLaws.{term_ahead}
 use Rattle.mining.specs.promises.Pairs.{pair_at, is_pair_at, pairs_from}
 use Rattle.mining.specs.promises.Building.{problem_in, encoded_term, first_bytes, term_bytes, OutcomeAs, CoversTerm, TermBegun}
 use Rattle.mining.specs.Values.{pair_value}
-use Rattle.mining.specs.declared.build.Outcome.TheVariants.{Rival, Term as TermTo}
+use Rattle.mining.specs.declared.build.Obstacle.TheVariants.{Rival}
 use Rattle.mining.proofs.GridLaws.{pairs_numbered, pairs_skip, pairs_take, pairs_end}
 use Rattle.mining.proofs.ArchiveLaws.{problem_pairs, problem_permitted, owned_met, shown_bounded, words_bounded, owned_fits}
 
@@ -210,7 +211,7 @@ module _ {a : Archive} {p : Pair} {at from : ℕ} {walked : Row} {b : List ℕ} 
         B.words ∙ sym (length_map (λ i. i.word) B.term) ∙ (term_ahead out at (plain_term B.term) _ build_term_at).number
 
     -- past the last pair the term is whole
-    pub build_end : 32 * a.parties ≤ k → OutcomeAs a p at b out (judge (problem_in a) p) (TermTo end)
+    pub build_end : 32 * a.parties ≤ k → OutcomeAs a p at b out (judge (problem_in a) p) (Ok end)
     unfolding judge_from term_bytes
     build_end past =
         let S = problem_in a in
@@ -221,7 +222,7 @@ module _ {a : Archive} {p : Pair} {at from : ℕ} {walked : Row} {b : List ℕ} 
         ∙ ap (ruling S p (words_of S p)) (sym r ∙ rival_end S p B.term)
         ∙ ruled_convertible S p (words_of S p) R.worded in
         rw j (
-          ap TermTo (B.ends ∙ ap (λ (x : Term Word). at + length (encoded_term x)) t),
+          ap Ok (B.ends ∙ ap (λ (x : Term Word). at + length (encoded_term x)) t),
           B.bytes ∙ ap (λ (x : Term Word). put b at (encoded_term x)) t,
         )
 
@@ -333,7 +334,7 @@ module _ (T : Turn) where
   module _ (f : all_of (has_at T) (words_at T) ≡ true) where
     -- it lacks no word of p: the first rival
     pub turn_rival : lacked_in T.a T.p (pair_at T.k) ≡ none
-        → OutcomeAs T.a T.p T.at T.old T.out (judge S T.p) (Rival (pair_value (pair_at T.k)))
+        → OutcomeAs T.a T.p T.at T.old T.out (judge S T.p) (Err (Rival (pair_value (pair_at T.k))))
     unfolding judge_from
     turn_rival g =
         let r = ahead_rivals T.begun T.built T.turn is_pair_lem in

@@ -2,6 +2,7 @@
 use mathlib.Core.Path.{◌≡◌, refl, sym, ap, ◌∙◌}
 use mathlib.Core.List.{List, [], ◌∷◌, append-nil}
 use mathlib.Core.Option.{none, some}
+use Rattle.std.specs.Prelude.{Result}
 use Prim.Native.Nat.{ℕ, ◌+◌, ◌≤◌}
 use native.Mathlib.Omega.{arith}
 use lib.ListN.{length}
@@ -22,7 +23,7 @@ use Rattle.fields.specs.promises.Writing.{put}
 use Rattle.rule_bytes.proofs.RoundTrip.{term_size, word_size}
 use Rattle.fields.proofs.PutLaws.{put_over}
 use Rattle.mining.specs.promises.Building.{problem_in, first_bytes, first_term, term_bytes, OutcomeAs}
-use Rattle.mining.specs.declared.build.Outcome.{Outcome}
+use Rattle.mining.specs.declared.build.Obstacle.{Obstacle}
 use Rattle.mining.proofs.ArchiveLaws.{problem_shown}
 use Rattle.mining.proofs.BuildLaws.{size_grows}
 
@@ -75,7 +76,7 @@ module _ (a : Archive) (p : Pair) where
   first_part = size_grows (problem_in a) p (begin (problem_in a) p (words_of (problem_in a) p)) (problem_in a).pairs
 
   -- the whole term leaves nothing of its first word's bytes
-  pub outcome_over : (at : ℕ) (b new : List ℕ) (v : Verdict Pair) (r : Outcome) → at ≤ length b
+  pub outcome_over : (at : ℕ) (b new : List ℕ) (v : Verdict Pair) (r : Result ℕ Obstacle) → at ≤ length b
       → OutcomeAs a p at (put b at (first_bytes a p)) new v r → OutcomeAs a p at b new v r
   outcome_over at b new convertible r h k = (k.0, k.1 ∙ put_over b at (first_bytes a p) (term_bytes a p) h first_part)
   outcome_over at b new (no_word x) r h k = k

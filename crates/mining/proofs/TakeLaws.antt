@@ -1,7 +1,8 @@
 -- A pair in its turn: the test of a due pair, and what a term as the outcome says.
 use mathlib.Core.Path.{◌≡◌, refl, ap, ◌∙◌}
-use mathlib.Core.Bool.{Bool, true, false, not, ◌&&◌}
+use mathlib.Core.Bool.{Bool, true, ◌&&◌}
 use mathlib.Core.List.{List}
+use Rattle.std.specs.Prelude.{Ok}
 use Prim.Native.Nat.{ℕ, ◌+◌, ◌/◌, ◌%◌, ◌≤◌}
 use lib.ListN.{length, drop}
 use Rattle.lists.proofs.Cases.{by_test, clash, and_left}
@@ -23,24 +24,8 @@ use Rattle.fields.specs.promises.Writing.{put}
 use Rattle.mining.specs.promises.Pairs.{pair_at, is_pair_at}
 use Rattle.mining.specs.promises.Building.{problem_in, encoded_term, term_bytes, OutcomeAs}
 use Rattle.mining.specs.promises.Taking.{PairMarks, due, due_by}
-use Rattle.mining.specs.declared.build.Outcome.TheVariants.{Term as TermTo}
 use Rattle.mining.proofs.ArchiveLaws.{problem_permitted, words_bounded, owned_fits}
 use Rattle.mining.proofs.BuildLaws.{put_drop}
-
-module _ (n : ℕ) (permits marks : Row) (k : ℕ) where
-  pub due_no_pair : is_pair_at n k ≡ false → false ≡ due_by n permits marks k
-  unfolding due_by
-  due_no_pair e = rw e refl
-
-  pub due_unpermitted : is_pair_at n k ≡ true → test_bit (mask_in permits (k / 32)) (k % 32) ≡ false
-      → false ≡ due_by n permits marks k
-  unfolding due_by
-  due_unpermitted e p = rw (e, p) refl
-
-  pub due_by_mark : is_pair_at n k ≡ true → test_bit (mask_in permits (k / 32)) (k % 32) ≡ true
-      → (r : Bool) → r ≡ test_bit (mask_in marks (k / 32)) (k % 32) → not r ≡ due_by n permits marks k
-  unfolding due_by
-  due_by_mark e p r h = rw (e, p) (ap not h)
 
 module _ (a : Archive) (l : RuleList Word) (k : ℕ) where
   -- the masks tell whether a pair is due
@@ -65,7 +50,7 @@ pub record TermOutcome (a : Archive) (p : Pair) (at : ℕ) (old new : List ℕ) 
   pub bytes : new ≡ put old at (term_bytes a p)
 
 module _ (a : Archive) (p : Pair) (at : ℕ) (old new : List ℕ) where
-  pub term_outcome : (v : Verdict Pair) (end : ℕ) → OutcomeAs a p at old new v (TermTo end) → TermOutcome a p at old new v end
+  pub term_outcome : (v : Verdict Pair) (end : ℕ) → OutcomeAs a p at old new v (Ok end) → TermOutcome a p at old new v end
   term_outcome convertible end h = record { verdict = refl; ends = cc h.0; bytes = h.1 }
   term_outcome (no_word x) end h = clash (cc h)
   term_outcome (rivalled x q) end h = clash (cc h)

@@ -1,125 +1,122 @@
 // The first words of a pair, kept while its term is built: they are not sought again for each pair that meets the term.
-ghost use Rattle.std.specs.Prelude.{List};
-ghost use Rattle.rebac.specs.Matter.{Pair, pair};
+ghost use Rattle.std.specs.Prelude.{List, [], ◌∷◌, ◌++◌};
+ghost use Rattle.rebac.specs.Matter.{Pair as Parties};
 ghost use Rattle.rebac.specs.Words.{Word as Symbols};
+ghost use Rattle.graph.specs.declared.Archive.{Archive as Shown};
+ghost use Rattle.search.specs.Word.{symbols_in};
 ghost use Rattle.mining.specs.promises.Building.{TwoPairs};
-ghost use Rattle.mining.specs.promises.Kept.{KeptAs, SomeKept, AmongQuery, AmongKept, OnwardQuery, LackedAs};
+ghost use Rattle.mining.specs.promises.Kept.{KeptAs, SomeKept, KeepQuery, NextKept, AmongQuery, AmongKept, OnwardQuery, LackedAs};
+ghost use Rattle.mining.specs.Values.{pair_in};
 
+use crate::build::Pair;
 use crate::lacked::lacked_after;
 use crate::term::add_word;
 use graph::Archive;
-use limits::WORD_CAPACITY;
-use search::Word;
-use words::Next;
+use search::{Graph, PairIn, ShortWord};
+use words::next_word;
 
 // So many words are kept at most: few enough to be written down fast, and most pairs lack one of them.
 const MOST_KEPT: usize = 64;
 
 // The bytes for them: a count, and a length byte and 31 symbols for each word.
-pub const KEPT_SIZE: usize = 2050;
+const KEPT_SIZE: usize = 2050;
 
-// The words kept, as a term from place 0 on: how many they are, and where they end.
-#[derive(Clone, Copy)]
+// The words kept, as a term from place 0 of the list on: how many they are, and where they end.
+#[derive(Drop)]
 pub struct Kept {
-    pub number: usize,
-    pub end: usize,
+    list: [u8; KEPT_SIZE],
+    number: usize,
+    end: usize,
 }
 
-// The first word lacked, where there is one, and the words kept then.
-#[derive(Clone, Copy)]
-pub struct Lacked {
-    pub next: Next,
-    pub kept: Kept,
-}
-
-// The first of the kept words that (u, v) lacks; where it has all of them, none, with the last one or the empty word.
-fn lacked_among(a: Archive, u: usize, v: usize, list: &[u8], kept: Kept) -> Next
-    requires { AmongQuery a (pair u v) kept list.now }
-    ensures { (p : Pair) (words : List Symbols) → KeptAs a p words kept list.now
-        → AmongKept a p (pair u v) words result }
-{
-    let mut w = Word {
-        len: 0,
-        symbols: [0u8; WORD_CAPACITY],
-    };
-    let mut place = 2;
-    let mut left = kept.number;
-    while left > 0 {
-        let r = rule_bytes::read_word(list, place);
-        w = r.word;
-        if !word_test::has_word(a.graph, a.parties, u, v, w) {
-            return Next {
-                found: true,
-                word: w,
-            };
-        }
-        place = r.next;
-        left -= 1;
-    }
-    Next {
-        found: false,
-        word: w,
-    }
-}
-
-// On from the last kept word, which (u, v) has as all before it: each new word is kept while there is room.
-fn lacked_onward(
-    a: Archive,
-    first: usize,
-    second: usize,
-    u: usize,
-    v: usize,
-    list: &mut [u8],
-    kept: Kept,
-    last: Word,
-) -> Lacked
-    requires { OnwardQuery a (pair first second) (pair u v) kept list.old last }
-    ensures { LackedAs a (pair first second) (pair u v) result list.new }
-{
-    let mut w = last;
-    let mut number = kept.number;
-    let mut end = kept.end;
-    while number < MOST_KEPT {
-        let c = words::next_word(a.graph, a.parties, first, second, a.longest, w);
-        if !c.found {
-            return Lacked {
-                next: c,
-                kept: Kept { number, end },
-            };
-        }
-        w = c.word;
-        add_word(list, 0, end, number, w);
-        end = end + 1 + w.len;
-        number += 1;
-        if !word_test::has_word(a.graph, a.parties, u, v, w) {
-            return Lacked {
-                next: c,
-                kept: Kept { number, end },
-            };
+impl Kept {
+    // No word is kept yet.
+    pub fn new() -> Kept
+        ensures { (a : Shown) (p : Parties) → KeptAs a p [] result }
+    {
+        Kept {
+            list: [0u8; KEPT_SIZE],
+            number: 0,
+            end: 2,
         }
     }
-    Lacked {
-        next: lacked_after(a, first, second, u, v, w),
-        kept: Kept { number, end },
-    }
-}
 
-// The words of the pair (first, second) in order, up to the first that (u, v) lacks: first those kept.
-pub fn first_lacked(
-    a: Archive,
-    first: usize,
-    second: usize,
-    u: usize,
-    v: usize,
-    list: &mut [u8],
-    kept: Kept,
-) -> Lacked
-    requires { TwoPairs a (pair first second) (pair u v) × SomeKept a (pair first second) kept list.old }
-    ensures { LackedAs a (pair first second) (pair u v) result list.new }
-{
-    let c = lacked_among(a, u, v, list, kept);
-    if c.found {
-        return Lacked { next: c, kept };
+    // One word more, the pair's next after the last.
+    fn keep(&mut self, w: ShortWord)
+        requires { KeepQuery self.old }
+        ensures { (a : Shown) (p : Parties) (words : List Symbols) → KeptAs a p words self.old
+            → NextKept a p words w.word → KeptAs a p (words ++ (symbols_in w.word ∷ [])) self.new }
+    {
+        add_word(&mut self.list, 0, self.end, self.number, w.word);
+        self.end = self.end + 1 + w.word.len;
+        self.number += 1;
     }
-    lacked_onward(a, first, second, u, v, list, kept, c.word)
+
+    // The first of the kept words that q lacks; where it has all of them, no such word but the last one, or the empty word.
+    fn lacked_among(&self, a: Archive, q: Pair) -> Result<ShortWord, ShortWord>
+        requires { AmongQuery a (pair_in q) self.now }
+        ensures { (p : Parties) (words : List Symbols) → KeptAs a p words self.now
+            → AmongKept a p (pair_in q) words result }
+    {
+        let other = PairIn {
+            graph: Graph {
+                parties: a.parties,
+                table: a.graph,
+            },
+            first: q.first,
+            second: q.second,
+        };
+        let mut w = ShortWord::zeros(0);
+        let mut place = 2;
+        for _ in 0..self.number {
+            let r = rule_bytes::read_word(&self.list, place);
+            w = ShortWord { word: r.word };
+            if !word_test::has_word(&other, w) {
+                return Ok(w);
+            }
+            place = r.next;
+        }
+        Err(w)
+    }
+
+    // On from the last kept word, which q has as all before it: each new word is kept while there is room.
+    fn lacked_onward(&mut self, a: Archive, p: Pair, q: Pair, last: ShortWord) -> Option<ShortWord>
+        requires { OnwardQuery a (pair_in p) (pair_in q) self.old last.word }
+        ensures { LackedAs a (pair_in p) (pair_in q) result self.new }
+    {
+        let graph = Graph {
+            parties: a.parties,
+            table: a.graph,
+        };
+        let own = PairIn {
+            graph,
+            first: p.first,
+            second: p.second,
+        };
+        let other = PairIn {
+            graph,
+            first: q.first,
+            second: q.second,
+        };
+        let mut w = last;
+        for _ in self.number..MOST_KEPT {
+            w = next_word(&own, a.longest, w)?;
+            self.keep(w);
+            if !word_test::has_word(&other, w) {
+                return Some(w);
+            }
+        }
+        lacked_after(a, p, q, w)
+    }
+
+    // The words of p in order, up to the first that q lacks: first those kept.
+    pub fn first_lacked(&mut self, a: Archive, p: Pair, q: Pair) -> Option<ShortWord>
+        requires { TwoPairs a (pair_in p) (pair_in q) × SomeKept a (pair_in p) self.old }
+        ensures { LackedAs a (pair_in p) (pair_in q) result self.new }
+    {
+        match self.lacked_among(a, q) {
+            Ok(w) => Some(w),
+            Err(last) => self.lacked_onward(a, p, q, last),
+        }
+    }
 }

@@ -1,64 +1,87 @@
 // The first word of a pair, and the first after a word that another pair lacks.
 ghost use Rattle.std.specs.Prelude.{[], ◌≤◌};
-ghost use Rattle.rebac.specs.Matter.{Matter, IsPair, pair};
+ghost use Rattle.rebac.specs.Matter.{Matter, IsPair};
 ghost use Rattle.rebac.specs.NextWord.{next_word};
 ghost use Rattle.graph.specs.promises.Archive.{Shows};
-ghost use Rattle.search.specs.promises.WordValues.{Short};
-ghost use Rattle.words.specs.promises.Next.{NextAs};
+ghost use Rattle.words.specs.promises.Next.{WordAs};
 ghost use Rattle.mining.specs.promises.Kept.{first_lacked, HadQuery};
+ghost use Rattle.mining.specs.Values.{pair_in};
 
+use crate::build::Pair;
 use graph::Archive;
-use limits::WORD_CAPACITY;
-use search::Word;
-use words::Next;
+use search::{Graph, PairIn, ShortWord, TwoPairsIn};
+use words::next_word;
 
 // The pair's first word.
-pub fn first_word(a: Archive, first: usize, second: usize) -> Next
-    requires { IsPair a.parties (pair first second) × ((M : Matter) × Shows M a) }
-    ensures { Short result.word × ((M : Matter) → Shows M a → NextAs (next_word M (pair first second) []) result) }
+pub fn first_word(a: Archive, p: Pair) -> Option<ShortWord>
+    requires { IsPair a.parties (pair_in p) × ((M : Matter) × Shows M a) }
+    ensures { (M : Matter) → Shows M a → WordAs (next_word M (pair_in p) []) result }
 {
-    let empty = Word {
-        len: 0,
-        symbols: [0u8; WORD_CAPACITY],
+    let own = PairIn {
+        graph: Graph {
+            parties: a.parties,
+            table: a.graph,
+        },
+        first: p.first,
+        second: p.second,
     };
-    words::next_word(a.graph, a.parties, first, second, a.longest, empty)
+    next_word(&own, a.longest, ShortWord::zeros(0))
 }
 
 // So many words are passed one by one before classes are tried: for most pairs that is quicker.
 const WORDS_BEFORE_CLASSES: u32 = 512;
 
-// The first word that (u, v) lacks, by classes. It has the words up to `had`.
-fn lacked_by_classes(a: Archive, first: usize, second: usize, u: usize, v: usize, had: Word) -> Next
-    requires { HadQuery a (pair first second) (pair u v) had × (1 ≤ had.len) }
-    ensures { Short result.word
-        × ((M : Matter) → Shows M a → NextAs (first_lacked M (pair first second) (pair u v)) result) }
+// The first word of p that q lacks, by classes. It has the words up to `had`.
+fn lacked_by_classes(a: Archive, p: Pair, q: Pair, had: ShortWord) -> Option<ShortWord>
+    requires { HadQuery a (pair_in p) (pair_in q) had.word × (1 ≤ had.word.len) }
+    ensures { (M : Matter) → Shows M a → WordAs (first_lacked M (pair_in p) (pair_in q)) result }
 {
-    let from = had.len - 1;
-    classes::first_telling_word(a.graph, a.parties, first, second, u, v, from, a.longest)
+    let from = had.word.len - 1;
+    let pairs = TwoPairsIn {
+        graph: Graph {
+            parties: a.parties,
+            table: a.graph,
+        },
+        first: p.first,
+        second: p.second,
+        u: q.first,
+        v: q.second,
+    };
+    classes::first_telling_word(&pairs, from, a.longest)
 }
 
-// The words of the pair (first, second) in order after `had`, up to the first that (u, v) lacks. It has those up to `had`.
+// The words of p in order after `had`, up to the first that q lacks. It has those up to `had`.
 // Before them a map is tried that shows that it has all, and after some of them classes.
-pub fn lacked_after(a: Archive, first: usize, second: usize, u: usize, v: usize, had: Word) -> Next
-    requires { HadQuery a (pair first second) (pair u v) had }
-    ensures { Short result.word
-        × ((M : Matter) → Shows M a → NextAs (first_lacked M (pair first second) (pair u v)) result) }
+pub fn lacked_after(a: Archive, p: Pair, q: Pair, had: ShortWord) -> Option<ShortWord>
+    requires { HadQuery a (pair_in p) (pair_in q) had.word }
+    ensures { (M : Matter) → Shows M a → WordAs (first_lacked M (pair_in p) (pair_in q)) result }
 {
-    if maps::carried(a.graph, a.parties, first, second, u, v) {
-        return words::nothing(had);
+    let pairs = TwoPairsIn {
+        graph: Graph {
+            parties: a.parties,
+            table: a.graph,
+        },
+        first: p.first,
+        second: p.second,
+        u: q.first,
+        v: q.second,
+    };
+    if maps::carried(&pairs) {
+        return None;
     }
+    let own = pairs.own();
+    let other = pairs.other();
     let mut passed: u32 = 0;
-    let mut c = words::next_word(a.graph, a.parties, first, second, a.longest, had);
-    while c.found {
-        let w = c.word;
-        if !word_test::has_word(a.graph, a.parties, u, v, w) {
-            return c;
+    let mut next = next_word(&own, a.longest, had);
+    while let Some(w) = next {
+        if !word_test::has_word(&other, w) {
+            return Some(w);
         }
         if passed >= WORDS_BEFORE_CLASSES {
-            return lacked_by_classes(a, first, second, u, v, w);
+            return lacked_by_classes(a, p, q, w);
         }
         passed += 1;
-        c = words::next_word(a.graph, a.parties, first, second, a.longest, w);
+        next = next_word(&own, a.longest, w);
     }
-    c
+    None
 }

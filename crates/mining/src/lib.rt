@@ -7,6 +7,6 @@ mod lacked;
 mod take;
 mod term;
 
-pub use build::{Outcome, Pair, build_term};
-pub use take::{PairTurn, is_due, take_due};
+pub use build::{Obstacle, Pair, build_term};
+pub use take::{Taken, is_due, take_due};
 pub use term::add_word;

@@ -13,15 +13,16 @@ ghost use Rattle.mining.specs.promises.Pairs.{pair_at};
 ghost use Rattle.mining.specs.promises.Building.{problem_in, CoversTerm};
 ghost use Rattle.mining.specs.promises.Taking.{PairMarks, due_by, DueQuery, TurnAs};
 
-use crate::build::{Outcome, build_term};
+use crate::build::{Obstacle, Pair, build_term};
 use graph::Archive;
 use limits::MOST_PARTIES;
 use masks::Row;
+use search::{Graph, PairIn, ShortWord};
 
-// What came of a pair in its turn: its outcome, and the pairs that the list permits then.
+// A pair's term: where it ends, and the pairs that the list with it permits.
 #[derive(Clone, Copy)]
-pub struct PairTurn {
-    pub outcome: Outcome,
+pub struct Taken {
+    pub end: usize,
     pub marks: Row,
 }
 
@@ -30,15 +31,18 @@ fn term_pairs(a: Archive, list: &[u8], at: usize) -> Row
     requires { (a.parties ≤ most_parties) × SomeTerm list.now at }
     ensures { (t : List (List ℕ)) (s : List ℕ) → TermAt list.now at t s → CoversTerm a t result }
 {
+    let graph = Graph {
+        parties: a.parties,
+        table: a.graph,
+    };
     let mut row = masks::full_row();
-    let mut left = fields::u16_at(list, at);
+    let number = fields::u16_at(list, at);
     let mut place = at + 2;
-    while left > 0 {
+    for _ in 0..number {
         let r = rule_bytes::read_word(list, place);
-        let word = r.word;
-        row = masks::common(row, search::walk_pairs(a.graph, a.parties, word));
+        let word = ShortWord { word: r.word };
+        row = masks::common(row, graph.walk_pairs(word));
         place = r.next;
-        left -= 1;
     }
     row
 }
@@ -54,54 +58,57 @@ fn mark_term(a: Archive, marks: Row, list: &[u8], at: usize) -> Row
     let mut row = marks;
     let count = MOST_PARTIES * a.parties;
     for k in 0..count {
-        let u: usize = k / MOST_PARTIES;
-        let v: usize = k % MOST_PARTIES;
-        if !masks::has(alive.masks[u], v as u32) {
+        let q = Pair::at(k);
+        if !q.is_in(&alive) {
             continue;
         }
-        if !graph::is_pair(a.parties, u, v) {
+        if !graph::is_pair(a.parties, q.first, q.second) {
             continue;
         }
-        if masks::has(row.masks[u], v as u32) {
+        if q.is_in(&row) {
             continue;
         }
-        let r = rules::meets_term(a.graph, a.parties, list, at, u, v);
+        let pair = PairIn {
+            graph: Graph {
+                parties: a.parties,
+                table: a.graph,
+            },
+            first: q.first,
+            second: q.second,
+        };
+        let r = rules::meets_term(&pair, list, at);
         if !r.met {
             continue;
         }
-        row = masks::add(row, u, v as u32);
+        row = masks::add(row, q.first, q.second as u32);
     }
     row
 }
 
 // Whether the pair of number k is permitted, and no term so far permits it.
-pub fn is_due(n: usize, permits: Row, marks: Row, k: usize) -> bool
+pub fn is_due(n: usize, permits: &Row, marks: &Row, k: usize) -> bool
     requires { (k < most_parties * n) × (n ≤ most_parties) }
-    ensures { result ≡ due_by n permits marks k }
+    ensures { result ≡ due_by n permits.now marks.now k }
 {
-    let u: usize = k / MOST_PARTIES;
-    let v: usize = k % MOST_PARTIES;
-    if !graph::is_pair(n, u, v) {
-        return false;
-    }
-    if !masks::has(permits.masks[u], v as u32) {
-        return false;
-    }
-    !masks::has(marks.masks[u], v as u32)
+    let q = Pair::at(k);
+    graph::is_pair(n, q.first, q.second) && q.is_in(permits) && !q.is_in(marks)
 }
 
 // The due pair of number k: its term from place `at` on, or what is in the way.
-pub fn take_due(a: Archive, marks: Row, k: usize, out: &mut [u8], at: usize) -> PairTurn
+pub fn take_due(
+    a: Archive,
+    marks: Row,
+    k: usize,
+    out: &mut [u8],
+    at: usize,
+) -> Result<Taken, Obstacle>
     requires { DueQuery a marks k at (length out.old) }
     ensures { (l : RuleList Symbols) → PairMarks a l marks
         → TurnAs a l k at out.old out.new (judge (problem_in a) (pair_at k)) result }
 {
-    let outcome = build_term(a, k / MOST_PARTIES, k % MOST_PARTIES, out, at);
-    match outcome {
-        Outcome::Term(end) => PairTurn {
-            outcome,
-            marks: mark_term(a, marks, out, at),
-        },
-        _ => PairTurn { outcome, marks },
-    }
+    let end = build_term(a, Pair::at(k), out, at)?;
+    Ok(Taken {
+        end,
+        marks: mark_term(a, marks, out, at),
+    })
 }

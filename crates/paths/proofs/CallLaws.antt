@@ -2,18 +2,19 @@
 use mathlib.Core.Path.{◌≡◌, refl, sym, ap, ◌∙◌}
 use mathlib.Core.Bool.{Bool, true, false, ◌&&◌}
 use mathlib.Core.List.{List, [], ◌∷◌, ◌++◌, Memᴰ}
-use mathlib.Core.Option.{Option, none, some}
+use mathlib.Core.Option.{Option as Searched, none, some}
 use Prim.Native.Nat.{ℕ, zero, suc, ◌+◌, ◌/◌, ◌≤◌, ◌<◌}
 use native.Mathlib.Omega.{arith}
-use native.Mathlib.Numerals.{add-one}
 use lib.Count.{ones}
 use lib.Dec.{ltb, leb}
-use lib.ListN.{length, take, drop, set, get_or}
-use lib.Seq.{drop-cons, ext_get_or, length-take-le, get_or-take, take-length}
+use lib.ListN.{length, take, drop, set, get_or, length-set}
+use lib.Seq.{ext_get_or, length-take-le, get_or-take, take-length}
 use borrow.Author.Tests.{ltb-true, leb-true, eq-eqb, ne_eqb, le-leb, lt-leb}
+use Rattle.std.specs.Prelude.{Option, Some, None, Result, Ok, Err, ok_or}
+use Rattle.std.specs.List.{list_all}
 use Rattle.lists.specs.Lists.{all_of}
 use Rattle.lists.specs.Order.{Distinct}
-use Rattle.lists.proofs.Cases.{and_left, and_right, and_false}
+use Rattle.lists.proofs.Cases.{clash, and_left, and_right, and_false}
 use Rattle.masks.specs.promises.Mask.{test_bit, with_bit}
 use Rattle.masks.proofs.BitLaws.{test_ones, test_with_other}
 use Rattle.masks.proofs.MaskLaws.{zero_bit}
@@ -27,6 +28,7 @@ use Rattle.rebac.specs.NextWord.{next_word}
 use Rattle.rebac.proofs.Reach.{least_is_walk}
 use Rattle.rebac.proofs.SearchLaws.{least_size}
 use Rattle.rebac.proofs.SymbolsLaws.{holds_listed, alphabet_ascending, alphabet_below}
+use Rattle.house_layout.specs.declared.reply.Refusal.{Refusal}
 use Rattle.house_layout.specs.declared.reply.Refusal.TheVariants.{PartyPair, GivenWord, Output}
 use Rattle.graph.specs.FileMatter.{Limits}
 use Rattle.graph.specs.promises.Archive.{Shows}
@@ -35,14 +37,14 @@ use Rattle.graph.specs.declared.Archive.{Archive}
 use Rattle.graph.proofs.LegalLaws.{pair_of}
 use Rattle.search.specs.Word.{symbols_in}
 use Rattle.search.specs.promises.WordValues.{Short}
-use Rattle.search.specs.promises.Search.{visit_all, form_of, mask_graph, FoundAs}
-use Rattle.paths.specs.Calls.{refuses, found, legal_given_word, path_in, next_in}
+use Rattle.search.specs.promises.Search.{visit_all, form_of, mask_graph, PathAs}
+use Rattle.paths.specs.Calls.{refuses, found, legal_given_word, GivenAs, path_in, next_in}
+use Rattle.search.specs.declared.word.ShortWord.{ShortWord}
 use Rattle.search.specs.declared.word.Word.{Word}
-use Rattle.search.specs.declared.search.Found.{Found}
-use Rattle.search.proofs.SearchLaws.{symbols_length, found_not, found_some}
-use Rattle.search.specs.promises.PairSearch.{table_graph, search_pair, PairQuery}
-use Rattle.words.specs.promises.Next.{Alphabet, NextAs}
-use Rattle.words.specs.declared.next.Next.{Next}
+use Rattle.search.specs.declared.path.Path.{Path}
+use Rattle.search.proofs.SearchLaws.{symbols_length}
+use Rattle.search.specs.promises.PairSearch.{table_graph, search_pair}
+use Rattle.words.specs.promises.Next.{Alphabet, WordAs}
 use Rattle.search.proofs.PairSearchLaws.{search_path, least_fixed, all_fixed}
 
 -- an archive's graph is the matter's enlarged graph
@@ -57,16 +59,11 @@ module _ (M : Matter) (a : Archive) (h : Shows M a) where
     below = λ s m. omega (arith, alphabet_below M.language M.labels m, h.limits.labels.1);
   }
 
--- tests along a list from its front
-pub all_front :
-    (p : ℕ → Bool) (l : List ℕ) (i : ℕ) → i < length l → p (get_or l i 0) ≡ true
-    → all_of p (drop i l) ≡ all_of p (drop (i + 1) l)
+-- every element passes, in the words of std
+pub all_is : {A : Type 0} (p : A → Bool) (l : List A) → list_all p l ≡ all_of p l
 unfolding all_of
-all_front p l i h e = rw (add-one, drop-cons l i 0 h, e)
-
-pub all_stop : (p : ℕ → Bool) (l : List ℕ) (i : ℕ) → i < length l → p (get_or l i 0) ≡ false → all_of p (drop i l) ≡ false
-unfolding all_of
-all_stop p l i h e = rw (drop-cons l i 0 h, e)
+all_is p [] = refl
+all_is p (x ∷ l) = ap (λ q. p x && q) (all_is p l)
 
 -- the ones of a mask in which these parties were visited one after another
 visit_ones :
@@ -137,10 +134,27 @@ pub pair_is : (M : Matter) (s : Archive) → Shows M s → (a b : ℕ) {r v : Bo
     → is_pair M.parties a b ≡ v
 pair_is M s h a b e t = sym (shown_pair M s h a b) ∙ sym e ∙ t
 
+pub pair_in :
+    (M : Matter) (s : Archive) → Shows M s → (a b : ℕ) {r : Bool} → r ≡ is_pair s.parties a b → r ≡ true → IsPair s.parties (pair a b)
+pair_in M s h a b e t = pair_of s.parties a b (sym e ∙ t)
+
 pub legal_is :
     (M : Matter) (s : Archive) → Shows M s → (w : Word) {r v : Bool}
     → r ≡ (leb w.len s.longest && all_of (legal_symbol s.labels s.language) (symbols_in w)) → r ≡ v → legal_given_word M w ≡ v
 legal_is M s h w e t = sym (shown_legal M s h w) ∙ sym e ∙ t
+
+-- the given word where the call goes on, and the refusal where it does not
+pub given_ok :
+    (M : Matter) (w : Word) (o : Option ShortWord) {v : ShortWord} {r : Result ShortWord Refusal}
+    → GivenAs M w o → r ≡ ok_or o GivenWord → r ≡ Ok v → (legal_given_word M w ≡ true) × (v.word ≡ w)
+given_ok M w None g e q = clash (cc (e, q))
+given_ok M w (Some y) {v} g e q = let z : y ≡ v = cc (e, q) in rw z at g
+
+pub given_err :
+    (M : Matter) (w : Word) (o : Option ShortWord) {x : Refusal} {r : Result ShortWord Refusal}
+    → GivenAs M w o → r ≡ ok_or o GivenWord → r ≡ Err x → (legal_given_word M w ≡ false) × (x ≡ GivenWord)
+given_err M w None {x} g e q = (g, cc (e, q))
+given_err M w (Some y) {x} g e q = clash (cc (e, q))
 
 pub short_given :
     (s : Archive) → ((M : Matter) × Shows M s) → (w : Word) → length w.symbols ≡ 31 → {r : Bool}
@@ -189,20 +203,22 @@ module _ (M : Matter) (a b : ℕ) (w : Word) (size : ℕ) where
         path_answer h = rw (p, l, ne_eqb w.len 0 z, le-leb (w.len + 1) size h)
 
 -- what the search for a word's path gives: the parties after the first
-abbrev via_of : Archive → ℕ → ℕ → Word → Option (List ℕ)
+abbrev via_of : Archive → ℕ → ℕ → Word → Searched (List ℕ)
 via_of s a b w = search_pair s.parties s.graph a b (form_of w.len (symbols_in w))
 
 -- what the search for a word's path found
-pub record PathFound (M : Matter) (a b : ℕ) (w : Word) (f : Found) : Type 0 where
+pub record PathFound (M : Matter) (a b : ℕ) (w : Word) (p : Path) : Type 0 where
   pub via : List ℕ
   pub least : least_path (enlarged M) (pair a b) (symbols_in w) ≡ some (a ∷ via)
-  pub count : ones f.visited ≡ length (a ∷ via)
+  pub count : ones p.visited ≡ length (a ∷ via)
   pub size : length (a ∷ via) ≡ w.len + 1
-  pub bytes : take (length (a ∷ via)) (set f.parties 0 a) ≡ a ∷ via
-  pub full : length f.parties ≡ 32
+  pub bytes : take (length (a ∷ via)) (set p.parties 0 a) ≡ a ∷ via
+  pub room : ones p.visited ≤ length (set p.parties 0 a)
 
-module _ (M : Matter) (s : Archive) (h : Shows M s) (a b : ℕ) (w : Word) (short : Short w) (f : Found)
-    (r : FoundAs 0 (with_bit 0 a) (via_of s a b w) f) where
+module _ (M : Matter) (s : Archive) (h : Shows M s) (a b : ℕ) (w : Word) (v : ShortWord) (same : v.word ≡ w) where
+  short : Short w
+  short = rw same at v.short
+
   words : length (symbols_in w) ≡ w.len
   words = symbols_length w (omega (arith, short.len, short.full))
 
@@ -213,26 +229,33 @@ module _ (M : Matter) (s : Archive) (h : Shows M s) (a b : ℕ) (w : Word) (shor
       ∙ least_fixed s.parties s.graph (pair a b) (symbols_in w)
       ∙ ap (λ (g : Graph ℕ). least_path g (pair a b) (symbols_in w)) (shown_graph M s h)
 
-  pub path_not : f.found ≡ false → least_path (enlarged M) (pair a b) (symbols_in w) ≡ none
-  path_not e = sym least_of ∙ ap (prepend a) (found_not 0 (with_bit 0 a) (via_of s a b w) f r e)
+  via_is : {o : Searched (List ℕ)} → search_pair s.parties s.graph a b (form_of w.len (symbols_in v.word)) ≡ o → via_of s a b w ≡ o
+  via_is e = rw same at e
 
-  pub path_found : f.found ≡ true → PathFound M a b w f
-  path_found e =
-      let o = found_some 0 (with_bit 0 a) (via_of s a b w) f r e in
-      let l = o.0 in
-      let q : FoundAs 0 (with_bit 0 a) (some l) f = rw o.1 at r in
-      let least : least_path (enlarged M) (pair a b) (symbols_in w) ≡ some (a ∷ l) = sym least_of ∙ ap (prepend a) o.1 in
+  pub path_not : search_pair s.parties s.graph a b (form_of w.len (symbols_in v.word)) ≡ none
+      → least_path (enlarged M) (pair a b) (symbols_in w) ≡ none
+  path_not e = sym least_of ∙ ap (prepend a) (via_is e)
+
+  pub path_found : (p : Path)
+      → (l : List ℕ) × ((search_pair s.parties s.graph a b (form_of w.len (symbols_in v.word)) ≡ some l) × PathAs 0 (with_bit 0 a) l p)
+      → PathFound M a b w p
+  path_found p r =
+      let l = r.0 in
+      let o = via_is r.1.0 in
+      let q = r.1.1 in
+      let least : least_path (enlarged M) (pair a b) (symbols_in w) ≡ some (a ∷ l) = sym least_of ∙ ap (prepend a) o in
       let path = least_is_walk (enlarged M) (pair a b) (symbols_in w) least in
-      let same : l ≡ path.0 = cc path.1 in
-      let d : Distinct (a ∷ l) = rw same path.2.simple in
+      let after : l ≡ path.0 = cc path.1 in
+      let d : Distinct (a ∷ l) = rw after path.2.simple in
       let size : length (a ∷ l) ≡ w.len + 1 = least_size (enlarged M) (pair a b) (symbols_in w) least ∙ omega (arith, words) in
+      let count : ones p.visited ≡ length (a ∷ l) = ap ones q.visited ∙ path_ones a l d in
       record {
         via = l;
         least = least;
-        count = ap ones q.1.0 ∙ path_ones a l d;
+        count = count;
         size = size;
-        bytes = path_bytes a l f.parties q.1.1.0 (omega (arith, size, short.len)) q.1.1.1;
-        full = q.1.1.0;
+        bytes = path_bytes a l p.parties q.full (omega (arith, size, short.len)) q.parties;
+        room = omega (arith, count, size, short.len, length-set p.parties 0 a, q.full);
       }
 
 -- what a copy of the bytes l leaves
@@ -245,30 +268,29 @@ pub legal_length : (M : Matter) (w : Word) → legal_given_word M w ≡ true →
 unfolding legal_given_word
 legal_length M w e = leb-true w.len M.longest (and_left (leb w.len M.longest) _ e)
 
--- a pair of the archive and a short word may be searched for
-pub query_in :
-    (M : Matter) (s : Archive) → Shows M s → (a b : ℕ) (w : Word) → IsPair s.parties (pair a b) → Short w
-    → PairQuery s.parties a b w
-query_in M s h a b w p short = record {
-  parties = omega (arith, h.parties, h.limits.parties.1);
-  is_pair = p;
-  short = short;
-}
-
-pub query_of :
-    (M : Matter) (s : Archive) → Shows M s → (a b : ℕ) (w : Word) → is_pair M.parties a b ≡ true → Short w
-    → PairQuery s.parties a b w
-query_of M s h a b w e short = query_in M s h a b w (rw h.parties (pair_of M.parties a b e)) short
-
 -- the searches over an archive give the matter's next word
 pub next_shown :
-    (M : Matter) (a : Archive) → Shows M a → (p : Pair) (w : Word) → Short w → w.len ≤ a.longest → (r : Next)
+    (M : Matter) (a : Archive) → Shows M a → (p : Pair) (w : Word) → Short w → w.len ≤ a.longest → (r : Option ShortWord)
     → ((al : List ℕ) → Alphabet al a.parties a.graph
-    → NextAs (search_next al (table_graph a.parties a.graph) p a.longest (symbols_in w)) r)
-    → NextAs (next_word M p (symbols_in w)) r
+    → WordAs (search_next al (table_graph a.parties a.graph) p a.longest (symbols_in w)) r)
+    → WordAs (next_word M p (symbols_in w)) r
 next_shown M a S p w s l r f =
     let z : length (symbols_in w) ≡ w.len = symbols_length w (omega (arith, s.len, s.full)) in
     let h : length (symbols_in w) ≤ M.longest = omega (arith, z, l, S.longest) in
     let e = next_search_equal M (table_graph a.parties a.graph) S.parties S.graph p (symbols_in w) h in
     let q = f (alphabet M.language M.labels) (shown_alphabet M a S) in
     rw (S.longest, e) at q
+
+-- the same of a given word
+module _ (M : Matter) (a : Archive) (S : Shows M a) where
+  pub given_within : (w : Word) (v : ShortWord) → (legal_given_word M w ≡ true) × (v.word ≡ w) → v.word.len ≤ a.longest
+  given_within w v g =
+      let e : v.word.len ≡ w.len = ap (λ (x : Word). x.len) g.1 in
+      omega (arith, e, legal_length M w g.0, S.longest)
+
+  pub given_next :
+      (p : Pair) (w : Word) (v : ShortWord) → (legal_given_word M w ≡ true) × (v.word ≡ w) → (r : Option ShortWord)
+      → ((al : List ℕ) → Alphabet al a.parties a.graph
+      → WordAs (search_next al (table_graph a.parties a.graph) p a.longest (symbols_in v.word)) r)
+      → WordAs (next_word M p (symbols_in w)) r
+  given_next p w v g r f = rw g.1 at (next_shown M a S p v.word v.short (given_within w v g) r f)

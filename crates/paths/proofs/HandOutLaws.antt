@@ -23,7 +23,6 @@ use Rattle.rebac.proofs.SymbolsLaws.{listed_language}
 use Rattle.rebac.proofs.Conversion.{word_in, word_out, pair_words_ascending, pair_words_distinct}
 use Rattle.rebac.proofs.NextWordLaws.{next_finds, next_hands_out, words_left_fall}
 use Rattle.house_file.specs.Check.{check_of}
-use Rattle.house_layout.specs.declared.reply.Check.TheVariants.{Accepted}
 use Rattle.graph.specs.FileMatter.{matter_of}
 use Rattle.graph.specs.Legal.{is_pair, legal_symbol}
 use Rattle.graph.proofs.LoadLaws.{accepted_limits}
@@ -32,7 +31,7 @@ use Rattle.search.specs.Word.{Carries}
 use Rattle.search.specs.declared.word.Word.{Word}
 use Rattle.paths.specs.Calls.{writes, nothing, found, legal_given_word, next_call}
 use Rattle.paths.specs.HandOut.{HandedOut, hand_out, HandsOut}
-use Rattle.paths.specs.declared.call.WordReply.TheVariants.{Nothing}
+use Rattle.std.specs.Prelude.{None, Ok}
 use Rattle.paths.proofs.CallLaws.{next_answer}
 
 -- a word value of at most D symbols of the language is legal
@@ -44,7 +43,7 @@ value_legal M v o h w c =
     and_both {b = leb w.len M.longest} (rw c.len (le-leb (length v) M.longest h))
     (rw c.symbols (all_of_lem (legal_symbol M.labels M.language) v (λ s m. legal_symbol_lem M s ∙ listed_language M s (o s m))))
 
-module _ (f : List ℕ) (e : check_of f ≡ Accepted) (a b : ℕ) (p : is_pair (matter_of f).parties a b ≡ true)
+module _ (f : List ℕ) (e : check_of f ≡ Ok tt) (a b : ℕ) (p : is_pair (matter_of f).parties a b ≡ true)
     (value : List ℕ → Word) (carries : (v : List ℕ) → length v ≤ 31 → Carries (value v) v) where
   -- the file's matter
   abbrev M : Matter
@@ -70,7 +69,7 @@ module _ (f : List ℕ) (e : check_of f ≡ Accepted) (a b : ℕ) (p : is_pair (
       ∙ ap (λ (x : List ℕ). found (next_word M (pair a b) x)) c.symbols)
 
   ended : List (List ℕ) → HandedOut
-  ended l = record { words = l; last = Nothing }
+  ended l = record { words = l; last = Ok None }
 
   hands_out :
       (k : ℕ) (v output : List ℕ) → Given v → 31 ≤ length output → words_left M (pair a b) v < k
@@ -95,7 +94,7 @@ module _ (f : List ℕ) (e : check_of f ≡ Accepted) (a b : ℕ) (p : is_pair (
   -- begun with the empty word it hands out the words of the pair, and ends
   pub next_handed :
       (output : List ℕ) → 31 ≤ length output → (k : ℕ) → length (pair_words M (pair a b)) < k
-      → hand_out value f a b k [] output ≡ record { words = pair_words M (pair a b); last = Nothing }
+      → hand_out value f a b k [] output ≡ record { words = pair_words M (pair a b); last = Ok None }
   unfolding ended words_left
   next_handed output h k l =
       let all_left = filter_length (before []) (pair_words M (pair a b)) in

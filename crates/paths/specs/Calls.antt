@@ -1,6 +1,6 @@
 -- The path and next-word calls (01, "The calls"): what each answers and writes, for any bytes, parties, word and output.
-use Rattle.std.specs.Prelude.{ℕ, ◌+◌, Bool, not, ◌&&◌, List, [], ◌∷◌, ◌++◌, length, drop, eqb, leb}
-use Rattle.std.proofs.Math.Option.{Option, none, some}
+use Rattle.std.specs.Prelude.{ℕ, ◌+◌, ◌≡◌, Bool, true, false, not, ◌&&◌, List, [], ◌∷◌, ◌++◌, length, drop, eqb, leb, Option, Some, None, MatchOption, Result, Ok, Err}
+use Rattle.std.proofs.Math.Option.{Option as Searched, none, some}
 use Rattle.lists.specs.Lists.{all_of}
 use Rattle.limits.specs.Limits.{word_capacity}
 use Rattle.rebac.specs.Matter.{Matter, pair}
@@ -13,9 +13,8 @@ use Rattle.house_layout.specs.declared.reply.Refusal.TheVariants.{PartyPair, Giv
 use Rattle.graph.specs.Legal.{is_pair, legal_symbol}
 use Rattle.graph.specs.Refusals.{unless, over_matter}
 use Rattle.search.specs.Word.{symbols_in}
+use Rattle.search.specs.declared.word.ShortWord.{ShortWord}
 use Rattle.search.specs.declared.word.Word.{Word}
-use Rattle.paths.specs.declared.call.WordReply.{WordReply}
-use Rattle.paths.specs.declared.call.WordReply.TheVariants.{Refused, Nothing, Wrote}
 
 -- what a call answers: a refusal, that there is nothing, or the bytes that it writes
 pub data WordAnswer : Type 0 where
@@ -24,16 +23,16 @@ pub data WordAnswer : Type 0 where
   writes : List ℕ → WordAnswer
 
 -- the reply: of what is written, the number of bytes
-abbrev pub word_reply : WordAnswer → WordReply
-word_reply (refuses x) = Refused x
-word_reply nothing = Nothing
-word_reply (writes l) = Wrote (length l)
+abbrev pub word_reply : WordAnswer → Result (Option ℕ) Refusal
+word_reply (refuses x) = Err x
+word_reply nothing = Ok None
+word_reply (writes l) = Ok (Some (length l))
 
 -- the reply in 01's number and values
-abbrev pub said_word : WordReply → Said
-said_word (Refused x) = refusal (number_of x)
-said_word Nothing = values []
-said_word (Wrote k) = values (k ∷ [])
+abbrev pub said_word : Result (Option ℕ) Refusal → Said
+said_word (Err x) = refusal (number_of x)
+said_word (Ok None) = values []
+said_word (Ok (Some k)) = values (k ∷ [])
 
 -- the output then: what is written stands at its start, every other byte is kept
 abbrev pub word_output : WordAnswer → List ℕ → List ℕ
@@ -41,13 +40,17 @@ word_output (refuses x) old = old
 word_output nothing old = old
 word_output (writes l) old = l ++ drop (length l) old
 
-abbrev pub found : Option (List ℕ) → WordAnswer
+abbrev pub found : Searched (List ℕ) → WordAnswer
 found none = nothing
 found (some l) = writes l
 
 -- not 11: at most D symbols, each of the language and with a label below L
 unfoldable pub legal_given_word : Matter → Word → Bool
 legal_given_word M w = leb w.len M.longest && all_of (legal_symbol M.labels M.language) (symbols_in w)
+
+-- the given word as one that a search can take, exactly where it is legal
+abbrev pub GivenAs : Matter → Word → Option ShortWord → Type 0
+GivenAs M w r = MatchOption r (legal_given_word M w ≡ false) (λ v. (legal_given_word M w ≡ true) × (v.word ≡ w))
 
 -- Path: 10, 11 (also the empty word), 14 by the word's length, then the path with the lower party at the first difference
 unfoldable pub path_in : Matter → ℕ → ℕ → Word → ℕ → WordAnswer

@@ -3,4 +3,4 @@
 
 mod call;
 
-pub use call::{WordReply, legal_given_word, next_call, path_call};
+pub use call::{given_word, legal_given_word, next_call, path_call};

@@ -2,39 +2,28 @@
 // What cannot be read or printed is said by a line on standard error. Asked --help or --version, it prints that and reads no file.
 #![tactic(auto)]
 
-mod word;
-
-ghost use Rattle.std.specs.Prelude.{◌≢◌, ◌≤◌, length, IfSome, OnOk, codes};
+ghost use Rattle.std.specs.Prelude.{◌≢◌, IfSome, OnOk, codes};
 ghost use Rattle.std.specs.Io.KnownBytes.{Appends};
 ghost use Rattle.report.specs.Report.{file_text, report_text};
-ghost use Rattle.permitconv.specs.promises.Input.{Counted, IsStart};
 
 use report::{READ_LIMIT, TEXT_ROOM};
+use std::fmt;
 use std::io::{Read, Write};
 use std::rt::Env;
 
-// What came of reading: the number of bytes, or a read failed.
-#[derive(Clone, Copy)]
-enum Input {
-    Bytes(usize),
-    Failed,
-}
-
 // Why there is no answer.
-#[derive(Clone, Copy)]
+#[derive(Clone, Copy, Debug, PartialEq, Eq)]
 enum Failure {
     NotRead,
     NotWritten,
 }
 
-// Reads until the slice is full or the input ends. A read that a signal interrupts counts as failed.
-fn read_input<R: Read>(input: &mut R, file: &mut [u8]) -> Input
-    ensures counted { Counted result file.new }
-    ensures start { IsStart result (R.remaining input.old) file.new }
-{
-    match reading::read_full(input, file) {
-        Ok(n) => Input::Bytes(n),
-        Err(_) => Input::Failed,
+impl fmt::Display for Failure {
+    fn fmt<W: fmt::Write>(&self, f: &mut fmt::Formatter<W>) -> fmt::Result {
+        match self {
+            Failure::NotRead => write!(f, "standard input cannot be read"),
+            Failure::NotWritten => write!(f, "standard output cannot be written"),
+        }
     }
 }
 
@@ -42,10 +31,7 @@ fn read_input<R: Read>(input: &mut R, file: &mut [u8]) -> Input
 fn print<W: Write>(text: &[u8], out: &mut W) -> Result<(), Failure>
     ensures { OnOk result (Appends (W.contents out.old) (W.contents out.new) text.now) }
 {
-    match out.write_all(text) {
-        Ok(()) => Ok(()),
-        Err(_) => Err(Failure::NotWritten),
-    }
+    out.write_all(text).map_err(|_| Failure::NotWritten)
 }
 
 // Prints the text of a file.
@@ -57,17 +43,14 @@ fn answer<W: Write>(file: &[u8], out: &mut W) -> Result<(), Failure>
     print(&text[..end], out)
 }
 
-// Answers for the file on the input.
+// Answers for the file on the input. A read that a signal interrupts counts as failed.
 fn convert<R: Read, W: Write>(input: &mut R, out: &mut W) -> Result<(), Failure>
     ensures { OnOk result (IfSome (R.remaining input.old)
         (λ xs. Appends (W.contents out.old) (W.contents out.new) (report_text xs))) }
 {
     let mut file = [0u8; READ_LIMIT];
-    let read = read_input(input, &mut file);
-    match read {
-        Input::Bytes(n) => answer(&file[..n], out),
-        Input::Failed => Err(Failure::NotRead),
-    }
+    let n = reading::read_full(input, &mut file).map_err(|_| Failure::NotRead)?;
+    answer(&file[..n], out)
 }
 
 // What the program does where this word is its first argument; one that is neither of the two counts as none.
@@ -76,7 +59,7 @@ fn run<R: Read, W: Write>(asked: &[u8], input: &mut R, out: &mut W) -> Result<()
         → IfSome (R.remaining input.old)
         (λ xs. Appends (W.contents out.old) (W.contents out.new) (report_text xs))) }
 {
-    if word::is_word(asked, b"--help") {
+    if asked == b"--help".as_slice() {
         return print(
             b"usage: permitconv < FILE\n\
             Reads a house file from standard input and prints whether its permits can be said by\n\
@@ -87,37 +70,18 @@ fn run<R: Read, W: Write>(asked: &[u8], input: &mut R, out: &mut W) -> Result<()
             out,
         );
     }
-    if word::is_word(asked, b"--version") {
+    if asked == b"--version".as_slice() {
         return print(b"permitconv (Hempmallet) 0.13.0\n", out);
     }
     convert(input, out)
 }
 
-// The first argument, at the start of the slice, and its length: 0 where there is none, or none that the slice has room for.
-fn first_argument<E: Env>(env: &E, asked: &mut [u8]) -> usize
-    ensures { result ≤ length asked.new }
-{
-    match env.arg(1, asked) {
-        Ok(n) => n,
-        Err(_) => 0,
-    }
-}
-
-// Says why there is no answer. Where that cannot be written either, nothing is left to say it to.
-fn complain<W: Write>(failure: Failure, errors: &mut W) {
-    let line: &[u8] = match failure {
-        Failure::NotRead => b"permitconv: standard input cannot be read\n",
-        Failure::NotWritten => b"permitconv: standard output cannot be written\n",
-    };
-    let _ = errors.write_all(line);
-}
-
+// Says on standard error why there is no answer. Where that fails too, nothing is left to say it to.
 fn main(rt: HostRuntime) {
     let mut asked = [0u8; 16];
-    let n = first_argument(&rt, &mut asked);
-    let done = run(&asked[..n], &mut rt.stdin(), &mut rt.stdout());
-    match done {
-        Ok(()) => {}
-        Err(failure) => complain(failure, &mut rt.stderr()),
+    // No argument, or one that there is no room for, counts as an empty one.
+    let n = rt.arg(1, &mut asked).unwrap_or(0);
+    if let Err(failure) = run(&asked[..n], &mut rt.stdin(), &mut rt.stdout()) {
+        let _ = eprintln!(rt; "permitconv: {failure}");
     }
 }

@@ -9,16 +9,15 @@ use lib.ListN.{length, take, drop, length-append, length-drop, drop_of_length-le
 use lib.Seq.{length-take-le, take-append_seam, take_all, drop-drop}
 use borrow.Author.Rules.{part_to_end}
 use borrow.Rule.Slice.PartMut.{put_mid, mid_of}
-use borrow.Author.Tests.{le-leb, lt-leb}
+use borrow.Author.Tests.{le-leb}
+use Rattle.std.specs.Prelude.{Result, Ok, Err}
 use Rattle.rebac.specs.Matter.{Matter}
 use Rattle.rebac.specs.Verdict.{convertible}
 use Rattle.rebac.specs.Existence.{verdict_of}
 use Rattle.house_layout.specs.Layout.{edition_of, records_of}
 use Rattle.house_layout.specs.Reply.{number_of}
 use Rattle.house_file.specs.Check.{check_of}
-use Rattle.house_layout.specs.declared.reply.Check.TheVariants as check
 use Rattle.house_layout.specs.declared.reply.Refusal.{Refusal}
-use Rattle.house_layout.specs.declared.reply.Refusal.TheVariants.{Output}
 use Rattle.house_file.proofs.WellFormedLaws.{framing}
 use Rattle.graph.specs.FileMatter.{matter_of}
 use Rattle.rule_bytes.specs.promises.Reading.{IsList}
@@ -27,8 +26,8 @@ use Rattle.fields.specs.promises.Writing.{put, Wrote}
 use Rattle.rules.proofs.MatterLists.{mined_is_list}
 use Rattle.mining.specs.declared.build.Pair.{Pair}
 use Rattle.conversion.specs.Calls.{list_of, bytes_of, verdict_call}
-use Rattle.conversion.specs.declared.verdict.VerdictReply.{VerdictReply}
-use Rattle.conversion.specs.declared.verdict.VerdictReply.TheVariants.{Refused, Convertible, NoWord, Rival}
+use Rattle.conversion.specs.declared.verdict.Verdict.{Verdict}
+use Rattle.conversion.specs.declared.verdict.Verdict.TheVariants.{Convertible, NoWord, Rival}
 use Rattle.house_layout.proofs.LayoutLaws.{size_most}
 use Rattle.house_layout.proofs.RefusalNumbers.{number_small}
 use Rattle.house_layout.proofs.RecordLaws.{by_check}
@@ -49,19 +48,19 @@ pair_fits p h = omega (arith, pair_length p, two_digits p.first h.0, two_digits 
 pub refused_fits : (x : Refusal) → length (refused_line x) ≤ 11
 refused_fits x = omega (arith, refused_length x, two_digits (number_of x) (omega (arith, number_small x)))
 
-accepted_fits : (f : List ℕ) → check_of f ≡ check.Accepted → (v : VerdictReply) → verdict_call f ≡ v → length (verdict_line v) ≤ 64
+accepted_fits : (f : List ℕ) → check_of f ≡ Ok tt → (v : Result Verdict Refusal) → verdict_call f ≡ v → length (verdict_line v) ≤ 64
 unfolding verdict_line
-accepted_fits f e (Refused x) v = omega (arith, refused_fits x)
-accepted_fits f e (Convertible k) v = omega (arith, convertible_length k, decimal_length 7 k (omega (arith, length_bound f e k v)))
-accepted_fits f e (NoWord p) v = omega (arith, no_word_length p, pair_fits p (no_word_parties f e p v))
-accepted_fits f e (Rival p q) v = let r = rival_parties f e p q v in omega (arith, rival_length p q, pair_fits p r.0, pair_fits q r.1)
+accepted_fits f e (Err x) v = omega (arith, refused_fits x)
+accepted_fits f e (Ok (Convertible k)) v = omega (arith, convertible_length k, decimal_length 7 k (omega (arith, length_bound f e k v)))
+accepted_fits f e (Ok (NoWord p)) v = omega (arith, no_word_length p, pair_fits p (no_word_parties f e p v))
+accepted_fits f e (Ok (Rival p q)) v = let r = rival_parties f e p q v in omega (arith, rival_length p q, pair_fits p r.0, pair_fits q r.1)
 
 pub line_fits : (f : List ℕ) → length (verdict_line (verdict_call f)) ≤ 64
 unfolding verdict_call verdict_line
 line_fits f = by_check (check_of f) (λ e. accepted_fits f e (verdict_call f) refl) (λ x e. rw e (omega (arith, refused_fits x)))
 
 -- "more is cut and so has no legal length": in neither edition
-pub cut_refused : (input : List ℕ) → 44713 ≤ length input → check_of (take 44713 input) ≡ check.Accepted → ⊥
+pub cut_refused : (input : List ℕ) → 44713 ≤ length input → check_of (take 44713 input) ≡ Ok tt → ⊥
 cut_refused input h e =
     let f = take 44713 input in
     let g = framing f e in
@@ -76,7 +75,7 @@ pub whole_text : (input : List ℕ) → length input ≤ 44713 → file_text inp
 whole_text input h = ap file_text (sym (take_all 44713 input h)) ∙ read_text input
 
 -- a refused file has its line alone, and so has input that is cut
-pub refused_text_lem : (f : List ℕ) (x : Refusal) → check_of f ≡ check.Refused x → file_text f ≡ refused_line x
+pub refused_text_lem : (f : List ℕ) (x : Refusal) → check_of f ≡ Err x → file_text f ≡ refused_line x
 unfolding file_text verdict_call verdict_line
 refused_text_lem f x e = rw e (append-nil (refused_line x))
 
@@ -130,11 +129,11 @@ wrote_tail b at {x} {new} {end} h w = record {
 }
 
 -- the text of a file: the line alone, or the line and the list's part after it
-text_by : (f : List ℕ) (v : VerdictReply) → verdict_call f ≡ v → file_text f ≡ verdict_line v ++ list_part (matter_of f) v
+text_by : (f : List ℕ) (v : Result Verdict Refusal) → verdict_call f ≡ v → file_text f ≡ verdict_line v ++ list_part (matter_of f) v
 unfolding file_text
 text_by f v e = rw e
 
-module _ (f : List ℕ) {v : VerdictReply} (e : verdict_call f ≡ v) {old new : List ℕ} {end : ℕ} where
+module _ (f : List ℕ) {v : Result Verdict Refusal} (e : verdict_call f ≡ v) {old new : List ℕ} {end : ℕ} where
   pub line_alone : list_part (matter_of f) v ≡ [] → Wrote old 0 (verdict_line v) new end
       → Wrote old 0 (file_text f) new end × PrefixLength end new
   line_alone n w =
@@ -142,26 +141,30 @@ module _ (f : List ℕ) {v : VerdictReply} (e : verdict_call f ≡ v) {old new :
       (rw t w, wrote_inside w)
 
   pub line_then_list :
-      {out : List ℕ} {last k : ℕ} → v ≡ Convertible k → Wrote old 0 (verdict_line v) out end
-      → Wrote out end (list_part (matter_of f) (Convertible k)) new last → Wrote old 0 (file_text f) new last × PrefixLength last new
+      {out : List ℕ} {last k : ℕ} → v ≡ Ok (Convertible k) → Wrote old 0 (verdict_line v) out end
+      → Wrote out end (list_part (matter_of f) (Ok (Convertible k))) new last → Wrote old 0 (file_text f) new last × PrefixLength last new
   line_then_list c w p =
       let q = wrote_two w p (omega arith) in
-      let t = text_by f v e ∙ ap (λ (r : VerdictReply). verdict_line v ++ list_part (matter_of f) r) c in
+      let t = text_by f v e ∙ ap (λ (r : Result Verdict Refusal). verdict_line v ++ list_part (matter_of f) r) c in
       (rw t q, wrote_inside q)
 
-bytes_list : (f : List ℕ) → check_of f ≡ check.Accepted → verdict_of (matter_of f) ≡ convertible
+bytes_list : (f : List ℕ) → check_of f ≡ Ok tt → verdict_of (matter_of f) ≡ convertible
     → IsList (bytes_of (matter_of f)) (list_of (matter_of f))
 unfolding bytes_of list_of
 bytes_list f e v = mined_is_list f e refl v
 
--- the list that is printed, and the part of the text that it is; or that it is too long
+-- the list that is printed, and the part of the text that it is
 pub list_is : {k : ℕ} {list : List ℕ} (f : List ℕ) → ListOf f k list → k ≤ 65536 → IsList (take k list) (list_of (matter_of f))
 list_is {k} f L h =
     let e = convertible_accepted f k L.verdict in
     rw (L.bytes h) (bytes_list f e (convertible_verdict f e k L.verdict).0)
 
-pub printed_part : (M : Matter) (k : ℕ) → k ≤ 65536 → list_part M (Convertible k) ≡ list_text (list_of M)
+pub printed_part : (M : Matter) (k : ℕ) → k ≤ 65536 → list_part M (Ok (Convertible k)) ≡ list_text (list_of M)
 printed_part M k h = rw (le-leb k 65536 h)
 
-pub refused_part : (M : Matter) (k : ℕ) → 65536 < k → list_part M (Convertible k) ≡ refused_line Output
-refused_part M k h = rw (lt-leb k 65536 h)
+-- without a list nothing follows the verdict's line
+pub no_list : (M : Matter) (v : Result Verdict Refusal) → ((k : ℕ) → v ≡ Ok (Convertible k) → ⊥) → list_part M v ≡ []
+no_list M (Err x) n = refl
+no_list M (Ok (Convertible k)) n = absurd (n k refl)
+no_list M (Ok (NoWord p)) n = refl
+no_list M (Ok (Rival p q)) n = refl

@@ -1,5 +1,5 @@
 -- What permitconv prints (01, "Program permitconv"): a line of the verdict, then the list or why there is none.
-use Rattle.std.specs.Prelude.{ℕ, ◌+◌, List, [], ◌∷◌, ◌++◌, take, leb}
+use Rattle.std.specs.Prelude.{ℕ, ◌+◌, List, [], ◌∷◌, ◌++◌, take, leb, Result, Ok, Err}
 use Rattle.fields.specs.Decimal.{decimal_text}
 use Rattle.rebac.specs.Matter.{Matter}
 use Rattle.house_layout.specs.Layout.{longest_file}
@@ -11,8 +11,8 @@ use Rattle.graph.specs.FileMatter.{matter_of}
 use Rattle.rule_text.specs.Text.{line_end, list_text}
 use Rattle.mining.specs.declared.build.Pair.{Pair}
 use Rattle.conversion.specs.Calls.{list_of, verdict_call}
-use Rattle.conversion.specs.declared.verdict.VerdictReply.{VerdictReply}
-use Rattle.conversion.specs.declared.verdict.VerdictReply.TheVariants.{Refused, Convertible, NoWord, Rival}
+use Rattle.conversion.specs.declared.verdict.Verdict.{Verdict}
+use Rattle.conversion.specs.declared.verdict.Verdict.TheVariants.{Convertible, NoWord, Rival}
 
 abbrev pub space : List ℕ
 space = 32 ∷ []
@@ -45,22 +45,22 @@ unfoldable pub refused_line : Refusal → List ℕ
 refused_line x = refused_text ++ (decimal_text (number_of x) ++ line_end)
 
 -- the line of a verdict: "convertible 7", "not-convertible 0 1 rival 1 2", "not-convertible 2 0 no-word", "refused 4"
-unfoldable pub verdict_line : VerdictReply → List ℕ
-verdict_line (Refused x) = refused_line x
-verdict_line (Convertible k) = convertible_text ++ (decimal_text k ++ line_end)
-verdict_line (NoWord p) = not_convertible_text ++ (pair_text p ++ (no_word_text ++ line_end))
-verdict_line (Rival p q) = not_convertible_text ++ (pair_text p ++ (rival_text ++ (pair_text q ++ line_end)))
+unfoldable pub verdict_line : Result Verdict Refusal → List ℕ
+verdict_line (Err x) = refused_line x
+verdict_line (Ok (Convertible k)) = convertible_text ++ (decimal_text k ++ line_end)
+verdict_line (Ok (NoWord p)) = not_convertible_text ++ (pair_text p ++ (no_word_text ++ line_end))
+verdict_line (Ok (Rival p q)) = not_convertible_text ++ (pair_text p ++ (rival_text ++ (pair_text q ++ line_end)))
 
 -- the longest list that is printed
 abbrev pub list_limit : ℕ
 list_limit = 65536
 
 -- "then a line for each term"; "A list above 65,536 bytes: its first line, then "refused 14"."
-abbrev pub list_part : Matter → VerdictReply → List ℕ
-list_part M (Refused x) = []
-list_part M (Convertible k) = pick (leb k list_limit) (list_text (list_of M)) (refused_line Output)
-list_part M (NoWord p) = []
-list_part M (Rival p q) = []
+abbrev pub list_part : Matter → Result Verdict Refusal → List ℕ
+list_part M (Err x) = []
+list_part M (Ok (Convertible k)) = pick (leb k list_limit) (list_text (list_of M)) (refused_line Output)
+list_part M (Ok (NoWord p)) = []
+list_part M (Ok (Rival p q)) = []
 
 -- what is printed for a file
 unfoldable pub file_text : List ℕ → List ℕ

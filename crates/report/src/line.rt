@@ -1,10 +1,10 @@
 // The lines of the report, written to a lent slice; every other byte is kept.
-ghost use Rattle.std.specs.Prelude.{◌+◌, ◌≤◌, length};
-ghost use Rattle.conversion.specs.declared.verdict.VerdictReply.TheVariants.{Convertible, NoWord, Rival};
+ghost use Rattle.std.specs.Prelude.{◌+◌, ◌≤◌, length, Ok};
+ghost use Rattle.conversion.specs.declared.verdict.Verdict.TheVariants.{Convertible, NoWord, Rival};
 ghost use Rattle.fields.specs.promises.Writing.{Wrote};
 ghost use Rattle.report.specs.Report.{pair_text, refused_line, verdict_line};
 
-use conversion::VerdictReply;
+use conversion::Verdict;
 use fields::{put_bytes, put_decimal};
 use house_layout::Refusal;
 use mining::Pair;
@@ -24,13 +24,13 @@ pub fn refused_line(x: Refusal, out: &mut [u8]) -> usize
     ensures { Wrote out.old 0 (refused_line x) out.new result }
 {
     let word = put_bytes(out, 0, b"refused ");
-    let end = put_decimal(out, word, house_layout::number(x) as usize);
+    let end = put_decimal(out, word, usize::from(u8::from(x)));
     put_bytes(out, end, b"\n")
 }
 
 fn convertible_line(k: usize, out: &mut [u8]) -> usize
-    requires { length (verdict_line (Convertible k)) ≤ length out.old }
-    ensures { Wrote out.old 0 (verdict_line (Convertible k)) out.new result }
+    requires { length (verdict_line (Ok (Convertible k))) ≤ length out.old }
+    ensures { Wrote out.old 0 (verdict_line (Ok (Convertible k))) out.new result }
 {
     let word = put_bytes(out, 0, b"convertible ");
     let end = put_decimal(out, word, k);
@@ -38,8 +38,8 @@ fn convertible_line(k: usize, out: &mut [u8]) -> usize
 }
 
 fn no_word_line(p: Pair, out: &mut [u8]) -> usize
-    requires { length (verdict_line (NoWord p)) ≤ length out.old }
-    ensures { Wrote out.old 0 (verdict_line (NoWord p)) out.new result }
+    requires { length (verdict_line (Ok (NoWord p))) ≤ length out.old }
+    ensures { Wrote out.old 0 (verdict_line (Ok (NoWord p))) out.new result }
 {
     let word = put_bytes(out, 0, b"not-convertible ");
     let end = put_pair(out, word, p);
@@ -47,8 +47,8 @@ fn no_word_line(p: Pair, out: &mut [u8]) -> usize
 }
 
 fn rival_line(p: Pair, q: Pair, out: &mut [u8]) -> usize
-    requires { length (verdict_line (Rival p q)) ≤ length out.old }
-    ensures { Wrote out.old 0 (verdict_line (Rival p q)) out.new result }
+    requires { length (verdict_line (Ok (Rival p q))) ≤ length out.old }
+    ensures { Wrote out.old 0 (verdict_line (Ok (Rival p q))) out.new result }
 {
     let word = put_bytes(out, 0, b"not-convertible ");
     let named = put_pair(out, word, p);
@@ -58,14 +58,14 @@ fn rival_line(p: Pair, q: Pair, out: &mut [u8]) -> usize
 }
 
 // The line of a verdict, from the first byte on, and its length.
-pub fn first_line(v: VerdictReply, out: &mut [u8]) -> usize
+pub fn first_line(v: Result<Verdict, Refusal>, out: &mut [u8]) -> usize
     requires { length (verdict_line v) ≤ length out.old }
     ensures { Wrote out.old 0 (verdict_line v) out.new result }
 {
     match v {
-        VerdictReply::Refused(x) => refused_line(x, out),
-        VerdictReply::Convertible(k) => convertible_line(k, out),
-        VerdictReply::NoWord(p) => no_word_line(p, out),
-        VerdictReply::Rival(p, q) => rival_line(p, q, out),
+        Err(x) => refused_line(x, out),
+        Ok(Verdict::Convertible(k)) => convertible_line(k, out),
+        Ok(Verdict::NoWord(p)) => no_word_line(p, out),
+        Ok(Verdict::Rival(p, q)) => rival_line(p, q, out),
     }
 }

@@ -1,13 +1,13 @@
 // The whole text of a file: the verdict's line, and the list or why there is none.
-ghost use Rattle.std.specs.Prelude.{List, ℕ, ◌≤◌, length};
+ghost use Rattle.std.specs.Prelude.{List, ℕ, ◌≤◌, length, Ok};
 ghost use Rattle.graph.specs.FileMatter.{matter_of};
-ghost use Rattle.conversion.specs.declared.verdict.VerdictReply.TheVariants.{Convertible};
+ghost use Rattle.conversion.specs.declared.verdict.Verdict.TheVariants.{Convertible};
 ghost use Rattle.fields.specs.promises.Writing.{Wrote};
 ghost use Rattle.report.specs.promises.Prefix.{PrefixLength, text_room, ListOf, PartRoom};
 ghost use Rattle.report.specs.Report.{list_part, file_text};
 
 use crate::line::{first_line, refused_line};
-use conversion::{LONGEST_TERM, VerdictReply};
+use conversion::{LONGEST_TERM, Verdict};
 use house_layout::Refusal;
 
 // The longest list that is printed, room for its text with the line before it, and one byte more than the longest file has.
@@ -21,7 +21,7 @@ pub const READ_LIMIT: usize = house_layout::LONGEST_FILE + 1;
 fn list_part(list: &[u8], k: usize, text: &mut [u8]) -> usize
     requires { PartRoom list.now k (length text.old) }
     ensures { (f : List ℕ) → ListOf f k list.now
-        → Wrote text.old 0 (list_part (matter_of f) (Convertible k)) text.new result }
+        → Wrote text.old 0 (list_part (matter_of f) (Ok (Convertible k))) text.new result }
 {
     if k <= LIST_LIMIT {
         return rule_text::list_text(&list[..k], text);
@@ -39,9 +39,7 @@ pub fn write_report(file: &[u8], text: &mut [u8]) -> usize
     let v = conversion::convert(file, &mut list, LIST_LIMIT);
     let end = first_line(v, text);
     match v {
-        VerdictReply::Refused(x) => end,
-        VerdictReply::Convertible(k) => end + list_part(&list, k, &mut text[end..]),
-        VerdictReply::NoWord(p) => end,
-        VerdictReply::Rival(p, q) => end,
+        Ok(Verdict::Convertible(k)) => end + list_part(&list, k, &mut text[end..]),
+        _ => end,
     }
 }

@@ -7,22 +7,11 @@ ghost use Rattle.fields.specs.promises.Writing.{put};
 
 use search::Word;
 
-fn put_symbols(out: &mut [u8], at: usize, w: Word)
-    requires { (w.len ≤ word_capacity) × (at + w.len ≤ length out.old) }
-    ensures { out.new ≡ put out.old at (symbols_in w) }
-{
-    let len = w.len;
-    let mut i = 0;
-    while i < len {
-        out[at + i] = w.symbols[i];
-        i += 1;
-    }
-}
-
 pub fn put_word(out: &mut [u8], at: usize, w: Word)
     requires { (w.len ≤ word_capacity) × (at + 1 + w.len ≤ length out.old) }
     ensures { out.new ≡ put out.old at (encode_word (symbols_in w)) }
 {
     out[at] = w.len as u8;
-    put_symbols(out, at + 1, w);
+    let from = at + 1;
+    out[from..from + w.len].copy_from_slice(&w.symbols[..w.len]);
 }

@@ -4,6 +4,7 @@ use mathlib.Core.Bool.{Bool, true, false}
 use mathlib.Core.List.{List, [], ◌∷◌, ◌++◌, append_assoc, append-nil}
 use Prim.Native.Nat.{ℕ, ◌+◌, ◌*◌, ◌-◌, ◌≤◌, ◌<◌}
 use native.Mathlib.Omega.{arith}
+use native.Mathlib.Nat.{sub-zero}
 use native.Mathlib.Numerals.{add-one}
 use lib.ListN.{length, take, drop, get_or, length-append, length-drop}
 use lib.Seq.{drop-cons, get_or-take, length-take-le}
@@ -131,20 +132,21 @@ pub record TermTextSoFar (b : List ℕ) (place left : ℕ) (t : List (List ℕ))
 
 module _ {b : List ℕ} {t : List (List ℕ)} {s o : List ℕ} {to : ℕ} where
   pub term_text_start :
-      {at left : ℕ} → TermAt b at t s → left ≡ u16_at b at → to + 3 * (length b - at) ≤ length o
-      → TermTextSoFar b (at + 2) left t s o o to to
+      {at number : ℕ} → TermAt b at t s → number ≡ u16_at b at → to + 3 * (length b - at) ≤ length o
+      → TermTextSoFar b (at + 2) (number - 0) t s o o to to
   term_text_start {at} h e r = record {
     rest = t;
-    ahead = rw e (term_ahead b at t s h);
+    ahead = rw (sub-zero, e) (term_ahead b at t s h);
     text = text_start;
     room = omega arith;
   }
 
-  module _ {place left : ℕ} {out : List ℕ} {end : ℕ} (f : TermTextSoFar b place left t s o out to end) where
-    pub word_entry : 0 < left → Entry encode_word FitWord b place left f.rest s
-    word_entry h = entry _ f.ahead h
+  -- of `number` words the first i were written
+  module _ {place number i : ℕ} {out : List ℕ} {end : ℕ} (f : TermTextSoFar b place (number - i) t s o out to end) where
+    pub word_entry : i < number → Entry encode_word FitWord b place (number - i) f.rest s
+    word_entry h = entry _ f.ahead (omega arith)
 
-    module _ (h : 0 < left) where
+    module _ (h : i < number) where
       -- where the next word ends
       word_within : place + 1 + length (word_entry h).first ≤ length b
       word_within = let n = word_entry h in word_room b place n.first (flat_map encode_word n.rest ++ s) n.bytes
@@ -154,34 +156,35 @@ module _ {b : List ℕ} {t : List (List ℕ)} {s o : List ℕ} {to : ℕ} where
 
       -- its text, and what follows it
       abbrev piece_text : List ℕ
-      piece_text = word_text (word_entry h).first ++ pick (eqb left 1) line_end ampersand
+      piece_text = word_text (word_entry h).first ++ pick (eqb (i + 1) number) line_end ampersand
 
       pub term_text_next :
           {out' : List ℕ} {end' : ℕ} → to ≤ length o → out' ≡ put out end piece_text → end' ≡ end + length piece_text
-          → TermTextSoFar b (word_at b place).next (left - 1) t s o out' to end'
+          → TermTextSoFar b (word_at b place).next (number - (i + 1)) t s o out' to end'
       term_text_next {out'} r x y =
           let n = word_entry h in
-          let c : length n.rest + 1 ≡ left = omega (arith, f.ahead.number, ap length n.split) in
-          let p : length piece_text ≤ 3 * length n.first + 3 = entry_length n.first (eqb left 1) in
+          let c : length n.rest + 1 ≡ number - i = omega (arith, f.ahead.number, ap length n.split) in
+          let p : length piece_text ≤ 3 * length n.first + 3 = entry_length n.first (eqb (i + 1) number) in
           let l : length out' ≡ length out = ap length x ∙ put_length out end piece_text (omega (arith, entry_room)) in
-          let a : pick (eqb left 1) line_end ampersand ≡ after ampersand line_end n.rest =
-          after_test word_text ampersand line_end n.rest left 1 (λ q. omega arith) (λ q. omega (arith, q)) in
+          let a : pick (eqb (i + 1) number) line_end ampersand ≡ after ampersand line_end n.rest =
+          after_test word_text ampersand line_end n.rest (i + 1) number (λ q. omega arith) (λ q. omega (arith, q)) in
           let d : words_text f.rest ≡ piece_text ++ words_text n.rest =
           ap words_text n.split
           ∙ joined_next word_text ampersand line_end n.first n.rest
           ∙ ap (λ (z : List ℕ). (word_text n.first ++ z) ++ words_text n.rest) (sym a) in
           let after-word = flat_map encode_word n.rest ++ s in
+          let left : number - i - 1 ≡ number - (i + 1) = omega arith in
           record {
             rest = n.rest;
-            ahead = n.onward (word_at b place).next (word_next b place n.first after-word n.bytes);
+            ahead = rw (← left) (n.onward (word_at b place).next (word_next b place n.first after-word n.bytes));
             text = text_next f.text n.rest piece_text r d x y;
             room = omega (arith, f.room, l, p, y, word_ends b place n.first after-word n.bytes, word_within);
           }
 
-    pub term_text_end : left ≡ 0 → (out ≡ put o to (term_text t)) × ((end ≡ to + length (term_text t)) × (drop place b ≡ s))
+    pub term_text_end : number ≤ i → (out ≡ put o to (term_text t)) × ((end ≡ to + length (term_text t)) × (drop place b ≡ s))
     unfolding term_text
     term_text_end z =
-        let k = no_more _ f.ahead z in
+        let k = no_more _ f.ahead (omega arith) in
         let empty = ap words_text k.0 ∙ joined_nil word_text ampersand line_end in
         let r = text_end f.text empty in
         (r.0, (r.1, k.1))
@@ -194,26 +197,27 @@ pub record ListTextSoFar (b : List ℕ) (place left : ℕ) (l : List (List (List
   pub room : end + 3 * (length b - place) ≤ length out
 
 module _ {b : List ℕ} {l : List (List (List ℕ))} {o : List ℕ} where
-  pub list_text_start : {left : ℕ} → IsList b l → left ≡ u16_at b 0 → 3 * length b ≤ length o → ListTextSoFar b 2 left l o o 0
+  pub list_text_start : {number : ℕ} → IsList b l → number ≡ u16_at b 0 → 3 * length b ≤ length o → ListTextSoFar b 2 (number - 0) l o o 0
   list_text_start h e r = record {
     rest = l;
-    ahead = rw e (list_ahead b l h);
+    ahead = rw (sub-zero, e) (list_ahead b l h);
     text = text_start;
     room = omega arith;
   }
 
-  module _ {place left : ℕ} {out : List ℕ} {end : ℕ} (f : ListTextSoFar b place left l o out end) where
-    pub term_entry : 0 < left → Entry encode_term FitTerm b place left f.rest []
-    term_entry h = entry _ f.ahead h
+  -- of `number` terms the first i were written
+  module _ {place number i : ℕ} {out : List ℕ} {end : ℕ} (f : ListTextSoFar b place (number - i) l o out end) where
+    pub term_entry : i < number → Entry encode_term FitTerm b place (number - i) f.rest []
+    term_entry h = entry _ f.ahead (omega arith)
 
-    module _ (h : 0 < left) where
+    module _ (h : i < number) where
       pub term_here_at : TermAt b place (term_entry h).first (flat_map encode_term (term_entry h).rest ++ [])
       term_here_at = record { bytes = (term_entry h).bytes; fits = (term_entry h).fits }
 
       pub list_text_next :
           {out' : List ℕ} {end' : ℕ} (next : ℕ) → out' ≡ put out end (term_text (term_entry h).first)
           → end' ≡ end + length (term_text (term_entry h).first)
-          → drop next b ≡ flat_map encode_term (term_entry h).rest ++ [] → ListTextSoFar b next (left - 1) l o out' end'
+          → drop next b ≡ flat_map encode_term (term_entry h).rest ++ [] → ListTextSoFar b next (number - (i + 1)) l o out' end'
       unfolding flat_map encode_term
       list_text_next {out'} next x y z =
           let n = term_entry h in
@@ -228,16 +232,17 @@ module _ {b : List ℕ} {l : List (List (List ℕ))} {o : List ℕ} where
           let d : end + length (term_text n.first) ≤ length out = omega (arith, f.room) in
           let k : length out' ≡ length out = ap length x ∙ put_length out end (term_text n.first) d in
           let split = ap (flat_map term_text) n.split in
+          let left : number - i - 1 ≡ number - (i + 1) = omega arith in
           record {
             rest = n.rest;
-            ahead = n.onward next z;
+            ahead = rw (← left) (n.onward next z);
             text = text_next f.text n.rest (term_text n.first) (omega arith) split x y;
             room = omega (arith, f.room);
           }
 
-    pub list_text_end : left ≡ 0 → (out ≡ put o 0 (list_text l)) × (end ≡ length (list_text l))
+    pub list_text_end : number ≤ i → (out ≡ put o 0 (list_text l)) × (end ≡ length (list_text l))
     unfolding flat_map list_text
     list_text_end z =
-        let k = no_more _ f.ahead z in
+        let k = no_more _ f.ahead (omega arith) in
         let r = text_end f.text (ap (flat_map term_text) k.0) in
         (r.0, omega (arith, r.1))

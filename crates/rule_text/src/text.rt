@@ -11,14 +11,15 @@ use fields::u16_at;
 use rule_bytes::read_word;
 use search::Word;
 
+// Kept: std prints {:02X} to a writer or a String; these digits go to a place of a lent slice, and there is no heap here.
 fn hex_digit(d: u8) -> u8
     requires { d < 16 }
     ensures { result ≡ hex_digit d }
 {
     if d < 10 {
-        return 48 + d;
+        return b'0' + d;
     }
-    55 + d
+    b'A' - 10 + d
 }
 
 // A symbol, and a dot unless it is the last.
@@ -32,7 +33,7 @@ fn put_symbol_text(out: &mut [u8], at: usize, s: u8, last: bool) -> usize
     if last {
         return at + 2;
     }
-    out[at + 2] = 46;
+    out[at + 2] = b'.';
     at + 3
 }
 
@@ -43,10 +44,8 @@ fn put_word_text(out: &mut [u8], at: usize, w: Word) -> usize
 {
     let len = w.len;
     let mut end = at;
-    let mut i = 0;
-    while i < len {
+    for i in 0..len {
         end = put_symbol_text(out, end, w.symbols[i], i + 1 == len);
-        i += 1;
     }
     end
 }
@@ -59,12 +58,10 @@ fn put_entry_text(out: &mut [u8], at: usize, w: Word, last: bool) -> usize
 {
     let end = put_word_text(out, at, w);
     if last {
-        out[end] = 10;
+        out[end] = b'\n';
         return end + 1;
     }
-    out[end] = 32;
-    out[end + 1] = 38;
-    out[end + 2] = 32;
+    out[end..end + 3].copy_from_slice(b" & ");
     end + 3
 }
 
@@ -82,15 +79,13 @@ pub fn put_term_text(list: &[u8], at: usize, out: &mut [u8], to: usize) -> TermT
         → (out.new ≡ put out.old to (term_text t))
         × ((result.end ≡ to + length (term_text t)) × (drop result.next list.now ≡ s)) }
 {
-    let mut left = u16_at(list, at);
+    let number = u16_at(list, at);
     let mut place = at + 2;
     let mut end = to;
-    while left > 0 {
+    for i in 0..number {
         let r = read_word(list, place);
-        let word = r.word;
-        end = put_entry_text(out, end, word, left == 1);
+        end = put_entry_text(out, end, r.word, i + 1 == number);
         place = r.next;
-        left -= 1;
     }
     TermText { next: place, end }
 }
@@ -101,14 +96,13 @@ pub fn list_text(list: &[u8], out: &mut [u8]) -> usize
     ensures { (l : List (List (List ℕ))) → IsList list.now l
         → (out.new ≡ put out.old 0 (list_text l)) × (result ≡ length (list_text l)) }
 {
-    let mut left = u16_at(list, 0);
+    let number = u16_at(list, 0);
     let mut place = 2;
     let mut end = 0;
-    while left > 0 {
+    for _ in 0..number {
         let r = put_term_text(list, place, out, end);
         place = r.next;
         end = r.end;
-        left -= 1;
     }
     end
 }

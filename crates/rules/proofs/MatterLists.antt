@@ -1,4 +1,5 @@
 -- Lists and their bytes for a matter: legal words are its words, the mined list has bytes, and permit on them gives back the permit table.
+use Rattle.std.specs.Prelude.{Ok}
 use mathlib.Core.Path.{◌≡◌, refl, sym, ap, ◌∙◌}
 use mathlib.Core.Bool.{true}
 use mathlib.Core.List.{List, Memᴰ}
@@ -20,7 +21,6 @@ use Rattle.rebac.proofs.SymbolsLaws.{language_listed, listed_language}
 use Rattle.rebac.proofs.PairsLaws.{pairs_in}
 use Rattle.rebac.proofs.Conversion.{mined_converts, mined_terms_bounded, mined_items_bounded}
 use Rattle.house_file.specs.Check.{check_of}
-use Rattle.house_layout.specs.declared.reply.Check.TheVariants.{Accepted}
 use Rattle.graph.specs.FileMatter.{matter_of}
 use Rattle.graph.proofs.LoadLaws.{accepted_limits}
 use Rattle.rule_bytes.specs.ListBytes.{encode_list, legal_word, LegalList}
@@ -74,7 +74,7 @@ pub legal_is_list : (M : Matter) → M.labels ≤ 8 → M.longest ≤ 31 → (l 
 legal_is_list M bounded short l h = record { bytes = refl; fits = list_legal_fits M.labels M.language M.longest bounded short l h }
 
 -- the mined list's among them
-pub mined_is_list : (f : List ℕ) → check_of f ≡ Accepted → cap_of (matter_of f).language ≡ 1 → verdict_of (matter_of f) ≡ convertible
+pub mined_is_list : (f : List ℕ) → check_of f ≡ Ok tt → cap_of (matter_of f).language ≡ 1 → verdict_of (matter_of f) ≡ convertible
     → IsList (encode_list (plain_list (mined_list (matter_of f)))) (plain_list (mined_list (matter_of f)))
 mined_is_list f e cap v =
     let k = accepted_limits f e in
@@ -82,13 +82,13 @@ mined_is_list f e cap v =
     (mined_legal (matter_of f) cap k.parties.1 v)
 
 -- permit on the bytes of a legal list
-pub permit_of_list : (f : List ℕ) → check_of f ≡ Accepted → (l : List (List Word)) → LegalFor (matter_of f) l → (a b : ℕ)
+pub permit_of_list : (f : List ℕ) → check_of f ≡ Ok tt → (l : List (List Word)) → LegalFor (matter_of f) l → (a b : ℕ)
     → is_pair (matter_of f).parties a b ≡ true → permit_call f (encode_list l) a b ≡ yes_or_no (permits_pair (matter_of f) l (pair a b))
 unfolding permit_call permit_in
 permit_of_list f e l h a b p = rw (e, p, decode_encode (matter_of f).labels (matter_of f).language (matter_of f).longest l h)
 
 -- permit on the bytes of the mined list is the permit table
-pub permit_of_mined : (f : List ℕ) → check_of f ≡ Accepted → cap_of (matter_of f).language ≡ 1 → verdict_of (matter_of f) ≡ convertible
+pub permit_of_mined : (f : List ℕ) → check_of f ≡ Ok tt → cap_of (matter_of f).language ≡ 1 → verdict_of (matter_of f) ≡ convertible
     → (a b : ℕ) → is_pair (matter_of f).parties a b ≡ true
     → permit_call f (encode_list (plain_list (mined_list (matter_of f)))) a b ≡ yes_or_no (permitted (matter_of f) (pair a b))
 permit_of_mined f e cap v a b p =

@@ -2,7 +2,9 @@
 use mathlib.Core.Path.{◌≡◌, refl, sym, ap, ◌∙◌}
 use mathlib.Core.Bool.{Bool, true, false, ◌&&◌}
 use mathlib.Core.List.{List, [], ◌++◌}
-use Prim.Native.Nat.{ℕ, ◌+◌, ◌-◌, ◌<◌}
+use Prim.Native.Nat.{ℕ, ◌+◌, ◌-◌, ◌<◌, ◌≤◌}
+use native.Mathlib.Omega.{arith}
+use native.Mathlib.Nat.{sub-zero}
 use lib.ListN.{drop}
 use Rattle.lists.specs.Lists.{all_of, any_of, flat_map}
 use Rattle.fields.specs.Numbers.{u16_at}
@@ -61,29 +63,31 @@ pub record ListSoFar (q : List (List ℕ) → Bool) (b : List ℕ) (place left :
   pub same : any_of q l ≡ any_of q rest
 
 module _ {q : List (List ℕ) → Bool} {b : List ℕ} {l : List (List (List ℕ))} where
-  pub list_start : {left : ℕ} → IsList b l → left ≡ u16_at b 0 → ListSoFar q b 2 left l
-  list_start h e = record { rest = l; ahead = rw e (list_ahead b l h); same = refl }
+  pub list_start : {number : ℕ} → IsList b l → number ≡ u16_at b 0 → ListSoFar q b 2 (number - 0) l
+  list_start h e = record { rest = l; ahead = rw (sub-zero, e) (list_ahead b l h); same = refl }
 
-  module _ {place left : ℕ} (f : ListSoFar q b place left l) where
-    pub list_entry : 0 < left → Entry encode_term FitTerm b place left f.rest []
-    list_entry h = entry _ f.ahead h
+  -- of `number` terms the first i were read
+  module _ {place number i : ℕ} (f : ListSoFar q b place (number - i) l) where
+    pub list_entry : i < number → Entry encode_term FitTerm b place (number - i) f.rest []
+    list_entry h = entry _ f.ahead (omega arith)
 
-    module _ (h : 0 < left) where
+    module _ (h : i < number) where
       pub list_term : TermAt b place (list_entry h).first (flat_map encode_term (list_entry h).rest ++ [])
       list_term = record { bytes = (list_entry h).bytes; fits = (list_entry h).fits }
 
       pub list_next :
           (next : ℕ) → drop next b ≡ flat_map encode_term (list_entry h).rest ++ [] → q (list_entry h).first ≡ false
-          → ListSoFar q b next (left - 1) l
+          → ListSoFar q b next (number - (i + 1)) l
       unfolding any_of
       list_next next k e =
           let n = list_entry h in
-          record { rest = n.rest; ahead = n.onward next k; same = f.same ∙ ap (any_of q) n.split ∙ rw e }
+          let left : number - i - 1 ≡ number - (i + 1) = omega arith in
+          record { rest = n.rest; ahead = rw (← left) (n.onward next k); same = f.same ∙ ap (any_of q) n.split ∙ rw e }
 
       pub list_yes : q (list_entry h).first ≡ true → any_of q l ≡ true
       unfolding any_of
       list_yes e = f.same ∙ ap (any_of q) (list_entry h).split ∙ rw e
 
-    pub list_no : left ≡ 0 → any_of q l ≡ false
+    pub list_no : number ≤ i → any_of q l ≡ false
     unfolding any_of
-    list_no z = f.same ∙ ap (any_of q) (no_more _ f.ahead z).0
+    list_no z = f.same ∙ ap (any_of q) (no_more _ f.ahead (omega arith)).0

@@ -11,6 +11,7 @@ use Rattle.rebac.specs.Matter.{Matter, pair}
 use Rattle.rebac.specs.Paths.{Graph, has}
 use Rattle.rebac.specs.Existence.{has_all, permits_pair}
 use Rattle.rebac.specs.promises.Options.{is_some}
+use Rattle.house_layout.specs.declared.reply.Refusal.{Refusal}
 use Rattle.house_layout.specs.declared.reply.Refusal.TheVariants.{RuleList, PartyPair}
 use Rattle.graph.specs.promises.Archive.{Shows}
 use Rattle.graph.specs.declared.Archive.{Archive}
@@ -21,8 +22,7 @@ use Rattle.rule_bytes.specs.promises.Reading.{IsList, SomeList}
 use Rattle.rules.specs.Permit.{said_permit, yes_or_no, answer_by, permit_in}
 use Rattle.rules.specs.promises.Meets.{meets_term, meets_list}
 use Rattle.graph.specs.Legal.{is_pair}
-use Rattle.rules.specs.declared.call.PermitReply.{PermitReply}
-use Rattle.rules.specs.declared.call.PermitReply.TheVariants.{Refused, Yes, No}
+use Rattle.std.specs.Prelude.{Result, Ok, Err}
 use Rattle.house_layout.proofs.RefusalNumbers.{refusal_said}
 use Rattle.lists.proofs.Cases.{clash}
 use Rattle.rule_bytes.proofs.RoundTrip.{encode_decode}
@@ -67,7 +67,7 @@ module _ (M : Matter) (a : Archive) (h : Shows M a) where
       (λ t m. ap (λ (g : Graph ℕ). all_of (has g (pair first second)) t) (shown_graph M a h))
 
   module _ (list : List ℕ) (first second : ℕ) where
-    pub no_pair : is_pair a.parties first second ≡ false → permit_in M list first second ≡ Refused PartyPair
+    pub no_pair : is_pair a.parties first second ≡ false → permit_in M list first second ≡ Err PartyPair
     unfolding permit_in
     no_pair e = rw (← h.parties, e)
 
@@ -76,7 +76,7 @@ module _ (M : Matter) (a : Archive) (h : Shows M a) where
       unfolding permit_in
       in_pair = rw (← h.parties, p, ← h.labels, ← h.language, ← h.longest)
 
-      pub no_list : is_some (archive_list a list) ≡ false → permit_in M list first second ≡ Refused RuleList
+      pub no_list : is_some (archive_list a list) ≡ false → permit_in M list first second ≡ Err RuleList
       no_list e = in_pair ∙ rw (none_of (archive_list a list) e)
 
       module _ (bytes : Bytes list) (e : is_some (archive_list a list) ≡ true) where
@@ -87,13 +87,13 @@ module _ (M : Matter) (a : Archive) (h : Shows M a) where
             in_pair ∙ rw o.decodes (ap yes_or_no (sym (k o.listed o.is ∙ same_answer first second o.listed)))
 
 -- equal numbers and values mean equal replies
-pub permit_said : (r s : PermitReply) → said_permit r ≡ said_permit s → r ≡ s
-permit_said (Refused x) (Refused y) e = ap Refused (refusal_said e)
-permit_said (Refused x) Yes e = clash (cc e)
-permit_said (Refused x) No e = clash (cc e)
-permit_said Yes (Refused y) e = clash (cc e)
-permit_said Yes Yes e = refl
-permit_said Yes No e = clash (cc e)
-permit_said No (Refused y) e = clash (cc e)
-permit_said No Yes e = clash (cc e)
-permit_said No No e = refl
+pub permit_said : (r s : Result Bool Refusal) → said_permit r ≡ said_permit s → r ≡ s
+permit_said (Err x) (Err y) e = ap Err (refusal_said e)
+permit_said (Err x) (Ok true) e = clash (cc e)
+permit_said (Err x) (Ok false) e = clash (cc e)
+permit_said (Ok true) (Err y) e = clash (cc e)
+permit_said (Ok true) (Ok true) e = refl
+permit_said (Ok true) (Ok false) e = clash (cc e)
+permit_said (Ok false) (Err y) e = clash (cc e)
+permit_said (Ok false) (Ok true) e = clash (cc e)
+permit_said (Ok false) (Ok false) e = refl

@@ -3,4 +3,4 @@
 
 mod call;
 
-pub use call::{PermitReply, TermMet, meets_list, meets_term, permit_call};
+pub use call::{TermMet, meets_list, meets_term, permit_call};

@@ -1,49 +1,33 @@
 -- A path has another party at each place: where fewer parties are left than places it has none. By induction over the places, since each
 -- step takes one of the parties left. Assumes nothing.
-use Rattle.std.proofs.Common.{◌≡◌, ℕ, zero, suc, ◌+◌, ◌-◌, ◌/◌, ◌%◌, ◌^◌, ◌<◌, ◌≤◌, Bool, true, false, not, ◌&&◌, eqb}
-use Rattle.std.proofs.Common.{List, [], ◌∷◌, length, drop, sym, refl, ap, ◌∙◌, mod-lt, div-one, arith, lit<, length-drop, shr-shr, eqb-true}
+use Rattle.std.proofs.Common.{◌≡◌, ℕ, zero, suc, ◌+◌, ◌-◌, ◌/◌, ◌%◌, ◌^◌, ◌<◌, ◌≤◌, Bool, true, false, not, ◌&&◌}
+use Rattle.std.proofs.Common.{List, [], ◌∷◌, length, drop, sym, refl, ap, ◌∙◌, div-one, arith, length-drop, shr-shr, eqb-true}
 use mathlib.Core.Logic.{by_cases}
 use mathlib.Core.Option.{none}
 use native.Mathlib.Decide.{ℕ_discrete}
-use lib.Bits.{bit_or, or_shr, or_mod}
+use lib.Bits.{bit_or}
 use lib.Count.{ones, ones_step}
 use Rattle.lists.specs.Lists.{filter_by, range, up_from}
 use Rattle.lists.proofs.Cases.{by_test, both, and_false, and_both, and_left, and_right}
 use Rattle.lists.proofs.ListLaws.{range_in}
 use Rattle.lists.proofs.Pointwise.{filter_fewer, filter_strictly}
-use Rattle.masks.specs.promises.Mask.{bit_at, test_bit, with_bit}
+use Rattle.masks.specs.promises.Mask.{test_bit, with_bit}
 use Rattle.masks.specs.declared.Table.{Table}
-use Rattle.masks.proofs.BitLaws.{test_with_same, test_with_other}
+use Rattle.masks.proofs.BitLaws.{test_with_same, test_with_other, test_or_left, test_or_right}
 use Rattle.rebac.specs.promises.Forms.{Place}
 use Rattle.search.specs.Word.{symbols_in}
-use Rattle.search.specs.promises.WordValues.{Short}
 use Rattle.search.specs.promises.Search.{places_from, search_from}
 use Rattle.search.specs.promises.Walk.{Within, Covers}
+use Rattle.search.specs.promises.Onward.{CoversFrom}
+use Rattle.search.specs.declared.search.Search.{Search}
 use Rattle.search.specs.declared.word.Word.{Word}
 use Rattle.search.proofs.SearchLaws.{search_none, through_visited, through_lost, symbols_length, short_fits}
 use Rattle.search.proofs.PairSearchLaws.{form_length}
 use Rattle.search.proofs.WalkLaws.{within_with}
 
 -- a mask joined with another has the places of both
-or_digit : (x y : ℕ) → x < 2 → y < 2 → eqb x 1 ≡ true → (eqb (bit_or x y) 1 ≡ true) × (eqb (bit_or y x) 1 ≡ true)
-or_digit zero y h l e = absurd (omega (arith, eqb-true 0 1 e))
-or_digit (suc zero) zero h l e = (refl, refl)
-or_digit (suc zero) (suc zero) h l e = (refl, refl)
-or_digit (suc zero) (suc (suc y)) h l e = absurd (omega arith)
-or_digit (suc (suc x)) y h l e = absurd (omega arith)
-
-or_bit : (a b k : ℕ) → bit_at (bit_or a b) k ≡ bit_or (bit_at a k) (bit_at b k)
-or_bit a b k = ap (λ (x : ℕ). x % 2) (or_shr a b k) ∙ or_mod (a / 2 ^ k) (b / 2 ^ k) 1
-
 pub within_or : (a b : ℕ) → Within a (bit_or a b) × Within b (bit_or a b)
-unfolding test_bit
-within_or a b = (
-  λ c e. ap (λ (x : ℕ). eqb x 1) (or_bit a b c) ∙ (or_digit (bit_at a c) (bit_at b c) (small a c) (small b c) e).0,
-  λ c e. ap (λ (x : ℕ). eqb x 1) (or_bit a b c) ∙ (or_digit (bit_at b c) (bit_at a c) (small b c) (small a c) e).1,
-)
-  where
-    small : (m k : ℕ) → bit_at m k < 2
-    small m k = mod-lt (m / 2 ^ k) (lit< tt)
+within_or a b = (test_or_left a b, test_or_right a b)
 
 -- the parties of the mask that are not passed
 free : ℕ → ℕ → ℕ → Bool
@@ -115,18 +99,18 @@ module _ (n : ℕ) (t : Table) (target visited : ℕ) where
   crowded_none xs all l crowded v h e more p o = crowded v h more p o (omega (arith, count_ones n all more))
 
 -- where the walk backwards stands: no party outside the mask has a path from here, nor any where those of the masks so far are too few
-pub record Walked (w : Word) (fixed from n target visited : ℕ) (t : Table) (mask all at : ℕ) : Type 0 where
-  pub within : at ≤ w.len
+pub record Walked (s : Search) (from visited mask all at : ℕ) : Type 0 where
   pub after : from ≤ at
-  pub covers : Covers n t target (places_from w fixed at) visited mask n
-  pub crowded : Crowded n t target (places_from w fixed at) visited all
+  pub covers : CoversFrom s at visited mask
+  pub crowded : Crowded s.graph.parties s.graph.table s.target (places_from s.form.word.word s.form.fixed at) visited all
 
 -- back at the first place: fewer ones than places
-pub walked_short : {w : Word} {fixed from n target visited : ℕ} {t : Table} {mask all at : ℕ}
-    → Walked w fixed from n target visited t mask all at → Short w → at ≡ from → ones all < w.len - from
-    → Covers n t target (places_from w fixed from) visited 0 n
-walked_short {w} {fixed} {from} {n} {target} {visited} {t} {mask} {all} {at} h s e l =
-    let k : length (places_from w fixed from) ≡ w.len - from =
-    form_length (fixed - from) (drop from (symbols_in w)) ∙ length-drop from (symbols_in w)
-    ∙ ap (λ (x : ℕ). x - from) (symbols_length w (short_fits s)) in
-    crowded_none n t target visited (places_from w fixed from) all (omega (arith, k, l)) (rw e at h.crowded)
+pub walked_short : {s : Search} {from visited mask all at : ℕ} → Walked s from visited mask all at → at ≡ from
+    → ones all < s.form.word.word.len - from → CoversFrom s from visited 0
+walked_short {s} {from} {visited} {mask} {all} {at} h e l =
+    let w : Word = s.form.word.word in
+    let k : length (places_from w s.form.fixed from) ≡ w.len - from =
+    form_length (s.form.fixed - from) (drop from (symbols_in w)) ∙ length-drop from (symbols_in w)
+    ∙ ap (λ (x : ℕ). x - from) (symbols_length w (short_fits s.form.word.short)) in
+    crowded_none s.graph.parties s.graph.table s.target visited (places_from w s.form.fixed from) all (omega (arith, k, l))
+    (rw e at h.crowded)

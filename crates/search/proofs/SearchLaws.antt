@@ -22,9 +22,12 @@ use Rattle.rebac.specs.promises.Marked.{prepend, PartyMarks, least_marked}
 use Rattle.rebac.proofs.MarkedLaws.{marked_least, least_last, least_seen}
 use Rattle.search.specs.Word.{symbols_in}
 use Rattle.search.specs.promises.WordValues.{Short}
-use Rattle.search.specs.promises.Search.{place_on, pick_place, place_at, mask_graph, form_of, search_from, places_from, visit_all, FoundAs}
+use Rattle.search.specs.promises.Search.{place_on, pick_place, place_at, mask_graph, form_of, search_from, places_from, visit_all}
+use Rattle.search.specs.promises.Search.{PathAs, FoundAs}
 use Rattle.search.specs.declared.word.Word.{Word}
-use Rattle.search.specs.declared.search.Found.{Found}
+use Rattle.search.specs.declared.path.NoPath.{NoPath}
+use Rattle.search.specs.declared.path.Path.{Path}
+use Rattle.std.specs.Prelude.{Result, Ok, Err, is_ok}
 
 -- a mask stands for the list of the parties that it has
 visited_list : ℕ → ℕ → List ℕ
@@ -190,49 +193,31 @@ places_two {w} s fixed at e =
     ∙ ap (λ (xs : List Place). place_at w fixed at ∷ xs) (places_last s fixed (at + 1) (omega arith) ∙ rw d)
 
 -- what was found is handed on, one party more in front
-pub found_none : (at visited : ℕ) (o : Option (List ℕ)) (r : Found) → o ≡ none → r.found ≡ false → FoundAs at visited o r
-found_none at visited o r e f = rw e f
-
-pub found_not : (at visited : ℕ) (o : Option (List ℕ)) (r : Found) → FoundAs at visited o r → r.found ≡ false → o ≡ none
-found_not at visited none r h f = refl
-found_not at visited (some l) r h f = both h.0 f
-
-pub found_some : (at visited : ℕ) (o : Option (List ℕ)) (r : Found) → FoundAs at visited o r → r.found ≡ true → (l : List ℕ) × (o ≡ some l)
-found_some at visited none r h f = both f h
-found_some at visited (some l) r h f = (l, refl)
-
-pub found_is : (at visited : ℕ) (o : Option (List ℕ)) (r : Found) → FoundAs at visited o r → r.found ≡ is_some o
-found_is at visited none r h = h
-found_is at visited (some l) r h = h.0
-
-pub found_onto : (at visited c : ℕ) (l : List ℕ) (r s : Found) → at + 1 < 32 → FoundAs (at + 1) (with_bit visited c) (some l) r
-    → s.found ≡ true → s.visited ≡ r.visited → s.parties ≡ set r.parties (at + 1) c → FoundAs at visited (some (c ∷ l)) s
+pub path_onto : (at visited c : ℕ) (l : List ℕ) (p q : Path) → at + 1 < 32 → PathAs (at + 1) (with_bit visited c) l p
+    → q.visited ≡ p.visited → q.parties ≡ set p.parties (at + 1) c → PathAs at visited (c ∷ l) q
 unfolding visit_all
-found_onto at visited c l r s b h f v p =
-    (f, (v ∙ h.1.0, (ap length p ∙ length-set r.parties (at + 1) c ∙ h.1.1.0, λ i k. rw p (written i k))))
+path_onto at visited c l p q b h v e = record {
+  visited = v ∙ h.visited;
+  full = ap length e ∙ length-set p.parties (at + 1) c ∙ h.full;
+  parties = λ i k. rw e (written i k);
+}
   where
-    written : (i : ℕ) → i < length (c ∷ l) → get_or (set r.parties (at + 1) c) (at + suc i) 0 ≡ get_or (c ∷ l) i 0
-    written zero k = get_or-set_same r.parties (at + 1) c 0 (omega (arith, h.1.1.0))
+    written : (i : ℕ) → i < length (c ∷ l) → get_or (set p.parties (at + 1) c) (at + suc i) 0 ≡ get_or (c ∷ l) i 0
+    written zero k = get_or-set_same p.parties (at + 1) c 0 (omega (arith, h.full))
     written (suc i) k =
-        get_or-set_other r.parties (at + 1) (at + suc (suc i)) c 0 (λ e. omega arith)
-        ∙ ap (λ (j : ℕ). get_or r.parties j 0) (omega arith) ∙ h.1.1.1 i (omega arith)
+        get_or-set_other p.parties (at + 1) (at + suc (suc i)) c 0 (λ e. omega arith)
+        ∙ ap (λ (j : ℕ). get_or p.parties j 0) (omega arith) ∙ h.parties i (omega arith)
 
-pub found_last : (at visited target : ℕ) (r : Found) → r.found ≡ true → r.visited ≡ with_bit visited target
-    → length r.parties ≡ 32 → get_or r.parties (at + 1) 0 ≡ target → FoundAs at visited (some (target ∷ [])) r
+pub path_last : (at visited target : ℕ) (p : Path) → p.visited ≡ with_bit visited target → length p.parties ≡ 32
+    → get_or p.parties (at + 1) 0 ≡ target → PathAs at visited (target ∷ []) p
 unfolding visit_all
-found_last at visited target r f v n p = (f, (v, (n, written)))
+path_last at visited target p v n e = record { visited = v; full = n; parties = written }
   where
-    written : (i : ℕ) → i < length (target ∷ []) → get_or r.parties (at + suc i) 0 ≡ get_or (target ∷ []) i 0
-    written zero k = p
+    written : (i : ℕ) → i < length (target ∷ []) → get_or p.parties (at + suc i) 0 ≡ get_or (target ∷ []) i 0
+    written zero k = e
     written (suc i) k = absurd (omega arith)
 
--- what was found beyond the candidate v
-abbrev pub Beyond : Word → ℕ → ℕ → ℕ → ℕ → ℕ → Table → ℕ → Found → Type 0
-Beyond w fixed at n target visited t v f =
-    FoundAs (at + 1) (with_bit visited v) (search_from n t (with_bit visited v) v target (places_from w fixed (at + 1))) f
-
--- by a search, or by two steps
-pub beyond_search : (w : Word) (fixed at n target visited : ℕ) (t : Table) (v : ℕ) {more : ℕ} (m : more ≡ with_bit visited v) {f r : Found}
-    → f ≡ r → FoundAs (at + 1) more (search_from n t more v target (places_from w fixed (at + 1))) r
-    → Beyond w fixed at n target visited t v f
-beyond_search w fixed at n target visited t v m e h = rw (e, ← m) h
+-- whether there is a path, as an equation
+pub path_is : (at visited : ℕ) (o : Option (List ℕ)) (r : Result Path NoPath) → FoundAs at visited o r → is_ok r ≡ is_some o
+path_is at visited o (Ok p) h = rw h.1.0
+path_is at visited o (Err e) h = rw h

@@ -1,22 +1,32 @@
 -- Backwards over the places: a party whose candidates each fail the place's test, or have no path onward, has no path. Assumes nothing.
-use Rattle.std.proofs.Common.{◌≡◌, ℕ, zero, suc, ◌+◌, ◌-◌, ◌/◌, ◌%◌, ◌^◌, ◌<◌, ◌≤◌, true, false}
-use Rattle.std.proofs.Common.{List, [], ◌∷◌, get_or, sym, refl, ap, ◌∙◌, div-one, arith, shr-shr, ne_eqb}
+use Rattle.std.proofs.Common.{◌≡◌, ◌≢◌, ℕ, ◌+◌, ◌*◌, ◌%◌, ◌^◌, ◌<◌, ◌≤◌, true, false, eqb}
+use Rattle.std.proofs.Common.{List, [], ◌∷◌, get_or, sym, refl, ap, ◌∙◌, arith, ne_eqb, eq-eqb, bit_and, w32}
+use Rattle.std.specs.Prelude.{Option, Some, None, is_some}
 use mathlib.Core.Logic.{by_cases}
 use mathlib.Core.Option.{none}
-use native.Mathlib.Decide.{dec_lt, ℕ_discrete}
-use lib.Count.{count_trailing_zeros, under}
+use native.Mathlib.Decide.{ℕ_discrete}
+use lib.Count.{count_trailing_zeros}
+use Rattle.std.specs.Int.{bit_not}
+use Rattle.std.proofs.lemmas.Nat.{and_le_l}
+use Rattle.std.proofs.lemmas.Nat.Bits.{bit_at-trailing_zeros, bit_at_clear_same, bit_at_clear_other}
 use Rattle.lists.proofs.Cases.{by_test, both}
-use Rattle.masks.specs.promises.Mask.{test_bit, with_bit}
-use Rattle.masks.specs.promises.Table.{no_row}
+use Rattle.masks.specs.promises.Mask.{bit_at, test_bit, with_bit}
+use Rattle.masks.specs.promises.Table.{no_row, mask_in}
 use Rattle.masks.specs.declared.Row.{Row}
 use Rattle.masks.specs.declared.Table.{Table}
 use Rattle.masks.proofs.BitLaws.{test_with_same, test_with_other}
 use Rattle.rebac.specs.promises.Forms.{Place}
 use Rattle.rebac.specs.promises.Marked.{least_marked}
-use Rattle.search.specs.promises.Search.{search_from}
-use Rattle.search.specs.promises.Walk.{NoStep, Within, Covers}
+use Rattle.search.specs.promises.Search.{place_on, search_from}
+use Rattle.search.specs.promises.Walk.{NoStep, FirstStep, Within, Covers}
 use Rattle.search.proofs.SearchLaws.{search_passed, search_none}
 use Rattle.search.proofs.SearchLaws.{through_visited, through_not, through_lost}
+
+-- where no first candidate was found none may follow
+pub never_steps : (x : Place) (row : Row) (mask n : ℕ) (r : Option ℕ) → FirstStep x row mask n r → is_some r ≡ false
+    → NoStep x row mask n n
+never_steps x row mask n None h e = h
+never_steps x row mask n (Some c) h e = both refl e
 
 -- one party more is passed
 pub within_with : (visited more k : ℕ) → Within visited more → Within visited (with_bit more k)
@@ -59,49 +69,47 @@ pub target_lost : (n : ℕ) (t : Table) (target : ℕ) (x : Place) (xs : List Pl
 target_lost n t target x xs h visited =
     search_passed n t (with_bit visited target) target target h (test_with_same visited target) x xs
 
--- the places of a mask below its trailing zeros are clear
-zeros_off : (k n i : ℕ) → i < count_trailing_zeros k n → n / 2 ^ i % 2 ≡ 0
-unfolding count_trailing_zeros
-zeros_off zero n i h = absurd (omega arith)
-zeros_off (suc k) n i h = go (n % 2) refl i h (λ j. zeros_off k (n / 2) j)
-  where
-    go : (r : ℕ) → n % 2 ≡ r → (i : ℕ) → i < under r (count_trailing_zeros k (n / 2))
-        → ((j : ℕ) → j < count_trailing_zeros k (n / 2) → n / 2 / 2 ^ j % 2 ≡ 0) → n / 2 ^ i % 2 ≡ 0
-    go zero e zero l ih = rw div-one e
-    go zero e (suc i) l ih = ap (λ (x : ℕ). x % 2) (ap (λ (j : ℕ). n / 2 ^ j) (omega arith) ∙ sym (shr-shr n 1 i)) ∙ ih i (omega arith)
-    go (suc r) e i l ih = absurd (omega arith)
+-- the candidates of the mask that are left, and those taken, none of which may follow at the place
+pub record Taken (x : Place) (row : Row) (mask left : ℕ) : Type 0 where
+  pub few : (c : ℕ) → c < 32 → test_bit left c ≡ true → test_bit mask c ≡ true
+  pub none : (c : ℕ) → c < 32 → test_bit mask c ≡ true → test_bit left c ≡ false → place_on x (mask_in row c) ≡ false
 
-skipped_off : (k mask c j : ℕ) → c ≤ j → j < c + count_trailing_zeros k (mask / 2 ^ c) → test_bit mask j ≡ false
-unfolding test_bit
-skipped_off k mask c j l h =
-    let d : c + (j - c) ≡ j = omega arith in
-    let z : mask / 2 ^ j % 2 ≡ 0 =
-    ap (λ (x : ℕ). x % 2) (ap (λ (i : ℕ). mask / 2 ^ i) (sym d) ∙ sym (shr-shr mask c (j - c)))
-    ∙ zeros_off k (mask / 2 ^ c) (j - c) (omega arith) in
-    rw z
+-- the first of those left
+module _ (left : ℕ) (h : left ≢ 0) (l : left < 2 ^ 32) where
+  abbrev first : ℕ
+  first = count_trailing_zeros 32 left
 
-pub steps_past : (k : ℕ) (x : Place) (row : Row) (mask n c : ℕ) → NoStep x row mask n c
-    → NoStep x row mask n (c + count_trailing_zeros k (mask / 2 ^ c))
-steps_past k x row mask n c f j h l e =
-    by_cases (dec_lt j c) (λ i. f j h i e) (λ i. both e (skipped_off k mask c j (omega arith) l))
+  low : (first < 32) × (bit_at left first ≡ 1) × ((i : ℕ) → i < first → bit_at left i ≡ 0)
+  low = bit_at-trailing_zeros w32 left (omega arith) l
 
--- the place that they lead to is set
-zeros_on : (k n : ℕ) → count_trailing_zeros k n < k → n / 2 ^ count_trailing_zeros k n % 2 ≡ 1
-unfolding count_trailing_zeros
-zeros_on zero n h = absurd (omega arith)
-zeros_on (suc k) n h = go (n % 2) refl h (zeros_on k (n / 2))
-  where
-    go : (r : ℕ) → n % 2 ≡ r → under r (count_trailing_zeros k (n / 2)) < suc k
-        → (count_trailing_zeros k (n / 2) < k → n / 2 / 2 ^ count_trailing_zeros k (n / 2) % 2 ≡ 1)
-        → n / 2 ^ under r (count_trailing_zeros k (n / 2)) % 2 ≡ 1
-    go zero e l ih =
-        let z : ℕ = count_trailing_zeros k (n / 2) in
-        ap (λ (x : ℕ). x % 2) (ap (λ (j : ℕ). n / 2 ^ j) (omega arith) ∙ sym (shr-shr n 1 z)) ∙ ih (omega arith)
-    go (suc r) e l ih = rw div-one (omega (arith, e))
+  pub first_within : first < 32
+  first_within = low.0
 
-pub come_on : (k mask c : ℕ) → count_trailing_zeros k (mask / 2 ^ c) < k → test_bit mask (c + count_trailing_zeros k (mask / 2 ^ c)) ≡ true
-unfolding test_bit
-come_on k mask c h =
-    let z : mask / 2 ^ (c + count_trailing_zeros k (mask / 2 ^ c)) % 2 ≡ 1 =
-    ap (λ (x : ℕ). x % 2) (sym (shr-shr mask c (count_trailing_zeros k (mask / 2 ^ c)))) ∙ zeros_on k (mask / 2 ^ c) h in
-    rw z
+  pub first_on : test_bit left first ≡ true
+  unfolding test_bit
+  first_on = eq-eqb _ 1 low.1
+
+  pub first_least : (i : ℕ) → i < first → test_bit left i ≡ false
+  unfolding test_bit
+  first_least i k = rw (low.2 i k)
+
+  abbrev rest : ℕ
+  rest = bit_and left (bit_not w32 (1 * 2 ^ first % 2 ^ 32))
+
+  rest_other : (i : ℕ) → i < 32 → (i ≡ first → ⊥) → test_bit rest i ≡ test_bit left i
+  unfolding test_bit
+  rest_other i k ne = ap (λ (x : ℕ). eqb x 1) (bit_at_clear_other w32 left first first_within i k ne)
+
+  pub rest_less : rest < left
+  rest_less =
+      let le : rest ≤ left = and_le_l left _ in
+      let ne : rest ≢ left = λ e. omega (arith, low.1, ap (λ (x : ℕ). bit_at x first) e, bit_at_clear_same w32 left first first_within) in
+      omega arith
+
+  -- the first one may not follow at the place, and is taken
+  pub taken_more : (x : Place) (row : Row) (mask : ℕ) → Taken x row mask left → place_on x (mask_in row first) ≡ false → Taken x row mask rest
+  taken_more x row mask t e = record {
+    few = λ c k o.
+        by_cases (ℕ_discrete c first) (λ q. rw q (t.few first first_within first_on)) (λ q. t.few c k (sym (rest_other c k q) ∙ o));
+    none = λ c k m o. by_cases (ℕ_discrete c first) (λ q. rw q e) (λ q. t.none c k m (sym (rest_other c k q) ∙ o));
+  }

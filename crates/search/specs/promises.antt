@@ -1,5 +1,6 @@
 -- What functions promise each other; no contract of a call rests on these definitions.
 pub mod Last
+pub mod Onward
 pub mod PairSearch
 pub mod Search
 pub mod Walk

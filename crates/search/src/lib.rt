@@ -1,14 +1,13 @@
 // The search over the enlarged graph from a pair's first party on, for paths and for forms of words.
 #![tactic(auto)]
 
-mod last;
+mod graph;
 mod pair;
-mod pairs;
+mod path;
 mod search;
-mod walk;
 mod word;
 
-pub use pair::search_pair;
-pub use pairs::walk_pairs;
-pub use search::Found;
-pub use word::Word;
+pub use graph::Graph;
+pub use pair::{PairIn, TwoPairsIn};
+pub use path::{NoPath, Path};
+pub use word::{Form, ShortWord, Word};

@@ -24,13 +24,14 @@ use Rattle.rebac.proofs.BackwardLaws.{depth_most}
 use Rattle.search.specs.promises.PairSearch.{table_graph}
 use Rattle.search.specs.declared.word.Word.{Word}
 use Rattle.search.proofs.LastLaws.{test_without}
-use Rattle.word_test.specs.promises.Backward.{symbols_back, ways_from, depth_from, may_stand, BackAs, BackQuery, CandidateQuery, Seconds}
+use Rattle.word_test.specs.promises.Backward.{symbols_back, ways_from, depth_from, may_stand, BackAs, CandidateQuery, FoundBack, Seconds}
 use Rattle.search.specs.promises.Last.{without}
 use Rattle.word_test.specs.promises.Last.{some_of, LastTwo, two_ways, two_far, LastThree}
 use Rattle.word_test.specs.promises.Walk.{Look}
 use Rattle.word_test.specs.declared.back.Back.{Back}
+use Rattle.word_test.specs.declared.back.SearchBack.{SearchBack}
 use Rattle.word_test.proofs.WayLaws.{back_length}
-use Rattle.word_test.proofs.CountLaws.{Counted, count_start, count_past, count_fits, count_on, count_full, count_end}
+use Rattle.word_test.proofs.CountLaws.{Counted, count_start, count_past, count_on, count_full, count_end}
 
 ones_zero : ones 0 ≡ 0
 unfolding ones
@@ -113,28 +114,37 @@ look_deeper at n t visited starts l mask h v b e o =
     let r = h v b e o in record { lost = r.lost; near = omega (arith, r.near, l) }
 
 -- where the loop over the candidates stands: those before v are counted, and one that `onward` lacks may be skipped
-pub record Turn (w : Word) (cap at n u visited starts deep : ℕ) (t : Table) (onward count depth v : ℕ) : Type 0 where
-  pub within : v ≤ n
-  pub skips : Look n t w at visited starts depth onward
-  pub sums : Counted (ways_by n t w starts visited u at) (far_by n t w starts visited u at) cap deep (w.len - (at + 1)) count depth v
+pub record Turn (s : SearchBack) (cap at u visited deep onward count depth v : ℕ) : Type 0 where
+  pub skips : Look s.graph.parties s.graph.table s.word.word at visited s.starts depth onward
+  pub sums : Counted (ways_by s.graph.parties s.graph.table s.word.word s.starts visited u at)
+      (far_by s.graph.parties s.graph.table s.word.word s.starts visited u at) cap deep (s.word.word.len - (at + 1)) count depth v
 
-module _ {w : Word} {cap at n u mask visited starts : ℕ} {row : Row} {deep : ℕ} {t : Table}
-    (q : CandidateQuery w cap at n u mask visited starts row deep t) where
+module _ {s : SearchBack} {cap at u mask visited deep : ℕ} (q : CandidateQuery s cap at u mask visited deep) where
+  abbrev n : ℕ
+  n = s.graph.parties
+
+  abbrev t : Table
+  t = s.graph.table
+
+  abbrev w : Word
+  w = s.word.word
+
+  abbrev starts : ℕ
+  starts = s.starts
+
   -- before the first candidate
-  pub turn_start : {depth : ℕ} → depth ≡ max deep (w.len - (at + 1)) → Turn w cap at n u visited starts deep t 4294967295 0 depth 0
+  pub turn_start : {depth : ℕ} → depth ≡ max deep (w.len - (at + 1)) → Turn s cap at u visited deep 4294967295 0 depth 0
   turn_start e = record {
-    within = omega arith;
-    skips = λ v h z o. both (ones_bit 32 v (omega (arith, q.query.parties, h))) z;
-    sums = count_start _ _ q.query.some e (omega (arith, e, q.query.fits, q.query.short.len));
+    skips = λ v h z o. both (ones_bit 32 v (omega (arith, s.graph.within, h))) z;
+    sums = count_start _ _ q.some e (omega (arith, e, q.fits, s.word.short.len));
   }
 
-  module _ {onward count depth v : ℕ} (h : Turn w cap at n u visited starts deep t onward count depth v) (l : v < n) where
+  module _ {onward count depth v : ℕ} (h : Turn s cap at u visited deep onward count depth v) (l : v < n) where
     -- a candidate that the mask lacks
-    pub turn_barred : test_bit mask v ≡ false → Turn w cap at n u visited starts deep t onward count depth (v + 1)
+    pub turn_barred : test_bit mask v ≡ false → Turn s cap at u visited deep onward count depth (v + 1)
     turn_barred e =
         let z : may_stand t w visited u at v ≡ false = sym (q.candidates v ∙ rw (lt-ltb v n l)) ∙ e in
         record {
-          within = omega arith;
           skips = h.skips;
           sums = count_past h.sums (rw z) (rw z (omega (arith, h.sums.start)));
         }
@@ -147,48 +157,38 @@ module _ {w : Word} {cap at n u mask visited starts : ℕ} {row : Row} {deep : �
     unvisited e = not-true (test_bit visited v) (and_left (not (test_bit visited v)) _ (stands e))
 
     -- one that may be skipped
-    pub turn_skip : test_bit mask v ≡ true → test_bit onward v ≡ false → Turn w cap at n u visited starts deep t onward count depth (v + 1)
+    pub turn_skip : test_bit mask v ≡ true → test_bit onward v ≡ false → Turn s cap at u visited deep onward count depth (v + 1)
     turn_skip e z =
         let r = h.skips v l z (unvisited e) in
         record {
-          within = omega arith;
           skips = h.skips;
-          sums = count_past h.sums (rw (stands e) r.lost) (rw (stands e) (omega (arith, r.near, q.query.place)));
+          sums = count_past h.sums (rw (stands e) r.lost) (rw (stands e) (omega (arith, r.near, q.place)));
         }
 
     -- one that was tried
     module _ (e : test_bit mask v ≡ true) {r : Back}
-        (f : BackAs (cap - count) (ways_from n t starts (with_bit visited v) v (symbols_back w 1 (at - 1))) depth
-        (w.len - (at - 1 + 1) + depth_from n t (with_bit visited v) v (symbols_back w 1 (at - 1))) r) where
+        (f : FoundBack s (cap - count) (at - 1) v (with_bit visited v) depth r) where
       tried : BackAs (cap - count) (ways_by n t w starts visited u at v) depth (w.len - (at + 1) + far_by n t w starts visited u at v) r
-      tried = rw (stands e) (back_far (omega (arith, q.three, q.query.place)) f)
-
-      pub tried_fits : count + r.count ≤ cap
-      tried_fits = count_fits h.sums tried
+      tried = rw (stands e) (back_far (omega (arith, q.three, q.place)) f)
 
       pub tried_on : count + r.count < cap → (more : ℕ) → Look n t w at visited starts r.depth more
-          → Turn w cap at n u visited starts deep t more (count + r.count) r.depth (v + 1)
-      tried_on z more s = record { within = omega arith; skips = s; sums = count_on h.sums tried z }
+          → Turn s cap at u visited deep more (count + r.count) r.depth (v + 1)
+      tried_on z more k = record { skips = k; sums = count_on h.sums tried z }
 
       pub tried_skips : Look n t w at visited starts r.depth onward
       tried_skips = look_deeper at n t visited starts f.known onward h.skips
 
       pub tried_full : cap ≤ count + r.count → (entered : ℕ)
-          → BackAs cap (ways_from n t starts visited u (symbols_back w 1 at)) deep (w.len - (at + 1) + depth_from n t visited u
-          (symbols_back w 1 at))
-          (record { count = count + r.count; depth = depth; tried = entered })
+          → FoundBack s cap at u visited deep (record { count = count + r.count; depth = depth; tried = entered })
       tried_full z entered =
           all_candidates n t w starts visited u at (omega (arith, q.three)) (w.len - (at + 1)) (count_full h.sums tried l
-          q.query.some z entered)
+          q.some z entered)
 
   -- after the last candidate
-  pub turn_end : {onward count depth v : ℕ} → Turn w cap at n u visited starts deep t onward count depth v → n ≤ v → (entered : ℕ)
-      → BackAs cap (ways_from n t starts visited u (symbols_back w 1 at)) deep (w.len - (at + 1) + depth_from n t visited u
-      (symbols_back w 1 at))
-      (record { count = count; depth = depth; tried = entered })
+  pub turn_end : {onward count depth v : ℕ} → Turn s cap at u visited deep onward count depth v → v ≡ n → (entered : ℕ)
+      → FoundBack s cap at u visited deep (record { count = count; depth = depth; tried = entered })
   turn_end h l entered =
-      all_candidates n t w starts visited u at (omega (arith, q.three)) (w.len - (at + 1)) (count_end h.sums (omega
-      (arith, h.within)) entered)
+      all_candidates n t w starts visited u at (omega (arith, q.three)) (w.len - (at + 1)) (count_end h.sums l entered)
 
 -- a mask of the parties from which the last two steps lead: those not passed to which the first symbol leads among the starts, and where a
 -- greater length is sought all of them
@@ -336,11 +336,9 @@ module _ {n : ℕ} {t : Table} {w : Word} {starts deep : ℕ} {row : Row} (h : S
             (λ e. rw e (omega arith))
 
 -- the same at place 2
-pub three_at : {w : Word} {cap at n u starts : ℕ} {row : Row} {deep : ℕ} {t : Table} → BackQuery w cap at n u starts row deep t
-    → (visited : ℕ) → at ≡ 2 → (mask : ℕ) → ((c : ℕ) → test_bit mask c ≡ (ltb c n && may_stand t w visited u at c))
-    → {r : Back} → LastThree mask row visited starts cap n w.len deep r
-    → BackAs cap (ways_from n t starts visited u (symbols_back w 1 at)) deep (w.len - (at + 1) + depth_from n t visited u
-    (symbols_back w 1 at)) r
-three_at {u = u} q visited e mask f g =
-    let l = q.place in
-    rw e (three_back q.seconds mask visited u (λ c. f c ∙ rw e) (omega (arith, e, l)) g)
+pub three_at : (s : SearchBack) (u visited : ℕ) {at deep : ℕ}
+    → Seconds s.graph.parties s.graph.table s.word.word s.starts deep s.seconds → at < s.word.word.len → at ≡ 2 → (mask : ℕ)
+    → ((c : ℕ) → test_bit mask c ≡ (ltb c s.graph.parties && may_stand s.graph.table s.word.word visited u at c))
+    → {cap : ℕ} {r : Back} → LastThree mask s.seconds visited s.starts cap s.graph.parties s.word.word.len deep r
+    → FoundBack s cap at u visited deep r
+three_at s u visited h l e mask f g = rw e (three_back h mask visited u (λ c. f c ∙ rw e) (omega (arith, e, l)) g)

@@ -44,9 +44,6 @@ module _ {f h : ℕ → ℕ} {cap deep passed count depth v : ℕ} (c : Counted 
 
   -- one that was tried, with what is left of the cap and the depth so far
   module _ {r : Back} (b : BackAs (cap - count) (f v) depth (passed + h v) r) where
-    pub count_fits : count + r.count ≤ cap
-    count_fits = omega (arith, b.count, c.below)
-
     pub count_on : count + r.count < cap → Counted f h cap deep passed (count + r.count) r.depth (v + 1)
     count_on z = record {
       counted = omega (arith, c.counted, sum_next f v, b.count, z);

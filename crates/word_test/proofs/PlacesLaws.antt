@@ -1,23 +1,24 @@
 -- The search back from the second party: which masks it begins with, and where it ends at once. Assumes nothing.
-use Rattle.std.proofs.Common.{◌≡◌, ℕ, ◌+◌, ◌-◌, ◌<◌, ◌≤◌, Bool, true, false, not, ◌&&◌, ltb, get_or, sym, refl, ap, ◌∙◌, arith, ltb-true}
+use Rattle.std.proofs.Common.{◌≡◌, ℕ, ◌+◌, ◌-◌, ◌^◌, ◌<◌, ◌≤◌, Bool, true, false, ◌&&◌, ltb, get_or, sym, refl, ap, ◌∙◌, arith, ltb-true}
+use lib.Bits.{bit_and}
 use Rattle.limits.specs.Limits.{most_parties, word_capacity}
 use Rattle.lists.proofs.Cases.{by_test, and_false}
 use Rattle.masks.specs.promises.Mask.{test_bit, with_bit}
 use Rattle.masks.specs.promises.Table.{mask_at}
 use Rattle.masks.specs.declared.Row.{Row}
 use Rattle.masks.specs.declared.Table.{Table}
-use Rattle.masks.proofs.BitLaws.{ones_bit}
-use Rattle.masks.proofs.MaskLaws.{Filled, zero_bit}
+use Rattle.masks.proofs.BitLaws.{ones_bit, test_and}
+use Rattle.masks.proofs.MaskLaws.{zero_bit}
 use Rattle.rebac.proofs.BackwardLaws.{count_none, depth_most, way_none}
-use Rattle.search.specs.promises.WordValues.{Short}
 use Rattle.search.specs.promises.PairSearch.{table_graph}
+use Rattle.search.specs.declared.graph.Graph.{Graph}
+use Rattle.search.specs.declared.word.ShortWord.{ShortWord}
 use Rattle.search.specs.declared.word.Word.{Word}
-use Rattle.search.proofs.LastLaws.{test_without}
 use Rattle.word_test.specs.promises.Backward.{symbols_back, ways_from, depth_from, may_stand, BackAs, CandidateQuery, Seconds}
-use Rattle.search.specs.promises.Last.{without}
+use Rattle.word_test.specs.promises.Steps.{StepsTo}
 use Rattle.word_test.specs.promises.Last.{LastTwo, LastThree}
 use Rattle.word_test.specs.declared.back.Back.{Back}
-use Rattle.word_test.proofs.StepLaws.{IntoTo}
+use Rattle.word_test.proofs.StepLaws.{IntoTo, test_not}
 use Rattle.word_test.proofs.WayLaws.{back_length}
 use Rattle.word_test.proofs.BackLaws.{Leaf, back_far, two_back, three_back, no_candidate}
 
@@ -48,35 +49,38 @@ inside true m x s h = of_starts m x s (h refl)
 inside false m x s h = refl
 
 -- the parties of a mask, those visited taken out, from which a symbol leads to u
-pub ends_stand : (n : ℕ) (t : Table) (w : Word) (among visited u at ends : ℕ)
-    → Filled (λ c. test_bit (without among visited) c && test_bit (mask_at t c u) (get_or w.symbols at 0)) n ends
+pub ends_stand : (n : ℕ) (t : Table) (w : Word) (among visited u at ends : ℕ) → n ≤ most_parties → visited < 2 ^ 32
+    → StepsTo n t (get_or w.symbols at 0) u (bit_and among (4294967295 - visited)) ends
     → (c : ℕ) → test_bit ends c ≡ (ltb c n && (test_bit among c && may_stand t w visited u at c))
-ends_stand n t w among visited u at ends h c =
+ends_stand n t w among visited u at ends l b h c =
     h c
-    ∙ ap (λ (b : Bool). ltb c n && b)
-    (ap (λ (b : Bool). b && test_bit (mask_at t c u) (get_or w.symbols at 0)) (test_without among visited c)
-    ∙ assoc (test_bit among c) (not (test_bit visited c)) (test_bit (mask_at t c u) (get_or w.symbols at 0)))
-  where
-    assoc : (a b c : Bool) → ((a && b) && c) ≡ (a && (b && c))
-    assoc true b c = refl
-    assoc false b c = refl
+    ∙ by_test (ltb c n)
+    (λ e. rw (e, test_and among (4294967295 - visited) c, test_not visited c b (omega (arith, l, ltb-true c n e)))
+    (by_test (test_bit among c) (λ q. rw q) (λ q. rw q)))
+    (λ e. rw e)
 
 -- what the search needs
-pub record Places (w : Word) (cap n second deep : ℕ) : Type 0 where
-  pub short : Short w
+pub record Places (g : Graph) (x : ShortWord) (cap second deep : ℕ) : Type 0 where
   pub some : 1 ≤ cap
-  pub two : 2 ≤ w.len
-  pub parties : n ≤ most_parties
-  pub party : second < n
+  pub two : 2 ≤ x.word.len
   pub fits : deep ≤ word_capacity
 
-module _ {w : Word} {cap n second deep : ℕ} (q : Places w cap n second deep) (t : Table) (starts visited : ℕ) where
+module _ {g : Graph} {x : ShortWord} {cap second deep : ℕ} (q : Places g x cap second deep) (starts visited : ℕ) where
+  abbrev n : ℕ
+  n = g.parties
+
+  abbrev t : Table
+  t = g.table
+
+  abbrev w : Word
+  w = x.word
+
   abbrev pub Searched : Back → Type 0
   Searched r = BackAs cap (ways_from n t starts visited second (symbols_back w 1 (w.len - 1))) deep
       (depth_from n t visited second (symbols_back w 1 (w.len - 1))) r
 
   below : (c : ℕ) → ltb c n ≡ true → c < most_parties
-  below c e = omega (arith, ltb-true c n e, q.parties)
+  below c e = omega (arith, ltb-true c n e, g.within)
 
   -- no length is sought, and the first symbol leads nowhere
   pub places_nowhere : w.len ≤ deep + 1 → starts ≡ 0 → {r : Back} → r.count ≡ 0 → r.depth ≡ deep → Searched r
@@ -137,20 +141,14 @@ module _ {w : Word} {cap n second deep : ℕ} (q : Places w cap n second deep) (
         rw i (back_far (omega (arith, e)) (three_back s ends visited second (λ c. ends_all c ∙ rw i) (omega (arith, e)) g))
 
     pub places_query : (w.len ≡ 2 → ⊥) → (w.len ≡ 3 → ⊥) → (row : Row) → Seconds n t w starts deep row
-        → CandidateQuery w cap (w.len - 1) n second ends visited starts row deep t
+        → CandidateQuery (record { graph = g; word = x; starts = starts; seconds = row }) cap (w.len - 1) second ends visited deep
     places_query a b row s = record {
-      query = record {
-        short = q.short;
-        some = q.some;
-        two = omega (arith, q.two, a, b);
-        place = omega (arith, q.two);
-        parties = q.parties;
-        party = q.party;
-        seconds = s;
-        fits = q.fits;
-      };
+      some = q.some;
       three = omega (arith, q.two, a, b);
+      place = omega (arith, q.two);
+      fits = q.fits;
       candidates = ends_all;
+      seconds = s;
     }
 
   pub places_search : {r : Back} → BackAs cap (ways_from n t starts visited second (symbols_back w 1 (w.len - 1))) deep

@@ -1,20 +1,23 @@
 -- Masks and rows of masks filled party by party: where the loop stands, and what one party more adds. Assumes nothing.
-use Rattle.std.proofs.Common.{◌≡◌, ℕ, ◌+◌, ◌<◌, ◌≤◌, Bool, true, false, ◌&&◌, ◌||◌, eqb, ltb, length, get_or}
-use Rattle.std.proofs.Common.{set, sym, refl, ap, ◌∙◌, arith, length-set, get_or-set_other, get_or-set_same, le-ltb, lt-ltb, eq-eqb, ne_eqb}
+use Rattle.std.proofs.lemmas.Nat.Bits.{bit_at_not}
+use Rattle.std.proofs.Common.{◌≡◌, ℕ, ◌+◌, ◌-◌, ◌^◌, ◌<◌, ◌≤◌, Bool, true, false, not, ◌&&◌, ◌||◌, eqb, ltb, length, get_or}
+use Rattle.std.proofs.Common.{set, sym, refl, ap, ◌∙◌, ⊎_elim, w32, ltb-true, arith, length-set, get_or-set_other, get_or-set_same, le-ltb, lt-ltb, eq-eqb, ne_eqb}
 use mathlib.Core.Logic.{by_cases}
 use native.Mathlib.Decide.{dec_lt, ℕ_discrete}
 use lib.Bits.{bit_or}
 use Rattle.limits.specs.Limits.{most_parties}
-use Rattle.lists.proofs.Cases.{both, and_false, or_false}
+use Rattle.lists.proofs.Cases.{by_test, both, and_false, or_false}
 use Rattle.masks.specs.promises.Mask.{test_bit, with_bit}
 use Rattle.masks.specs.promises.Table.{no_row, mask_in, mask_at}
 use Rattle.masks.specs.declared.Row.{Row}
 use Rattle.masks.specs.declared.Table.{Table}
-use Rattle.masks.proofs.BitLaws.{test_with_same, test_with_other, test_or_left, test_or_right}
+use Rattle.masks.proofs.BitLaws.{bit_cases, test_with_same, test_with_other, test_or_left, test_or_right}
 use Rattle.masks.proofs.MaskLaws.{Filled, filled_without}
 use Rattle.search.specs.promises.Last.{without}
 use Rattle.search.proofs.LastLaws.{test_without}
-use Rattle.word_test.specs.promises.Steps.{StepsFrom, Joined}
+use Rattle.search.specs.declared.word.Word.{Word}
+use Rattle.word_test.specs.promises.Backward.{may_stand}
+use Rattle.word_test.specs.promises.Steps.{StepsFrom, StepsTo, Joined}
 use Rattle.word_test.specs.promises.Walk.{Onward}
 
 -- the masks before k have c where the symbol leads to them by the row `from`, and those from k on are the row's
@@ -22,9 +25,6 @@ pub record JoinedTo (row from : Row) (s c : ℕ) (r : Row) (k : ℕ) : Type 0 wh
   pub full : length r.masks ≡ most_parties
   pub before : (v d : ℕ) → v < k → test_bit (mask_in r v) d ≡ ((eqb d c && test_bit (mask_in from v) s) || test_bit (mask_in row v) d)
   pub after : (v : ℕ) → k ≤ v → mask_in r v ≡ mask_in row v
-
-pub joined_none : {row from : Row} {s c : ℕ} → length row.masks ≡ most_parties → JoinedTo row from s c row 0
-joined_none n = record { full = n; before = λ v d h. absurd (omega arith); after = λ v h. refl }
 
 module _ {row from : Row} {s c : ℕ} {r : Row} {k : ℕ} (h : JoinedTo row from s c r k) where
   pub joined_without : test_bit (mask_in from k) s ≡ false → JoinedTo row from s c r (k + 1)
@@ -49,8 +49,17 @@ module _ {row from : Row} {s c : ℕ} {r : Row} {k : ℕ} (h : JoinedTo row from
     after = λ v l. get_or-set_other r.masks k v m 0 (λ z. omega arith) ∙ h.after v (omega arith);
   }
 
-pub joined_all : {row from : Row} {s c : ℕ} {r : Row} {k n : ℕ} → JoinedTo row from s c r k → n ≤ k → Joined n row from s c r
-joined_all h l = record { full = h.full; masks = λ v d b. h.before v d (omega arith) }
+-- the places that a mask lacks, in the code's words `!n`
+pub test_not : (n k : ℕ) → n < 2 ^ 32 → k < 32 → test_bit (4294967295 - n) k ≡ not (test_bit n k)
+unfolding test_bit
+test_not n k l h = rw (bit_at_not w32 n k l h) (⊎_elim (λ e. rw e) (λ e. rw e) (bit_cases n k))
+
+-- the parties that are not visited from which the symbol leads to u
+pub stands_to : (n : ℕ) (t : Table) (w : Word) (visited u at mask : ℕ) → n ≤ most_parties → visited < 2 ^ 32
+    → StepsTo n t (get_or w.symbols at 0) u (4294967295 - visited) mask
+    → (c : ℕ) → test_bit mask c ≡ (ltb c n && may_stand t w visited u at c)
+stands_to n t w visited u at mask l b h c =
+    h c ∙ by_test (ltb c n) (λ e. rw (e, test_not visited c b (omega (arith, l, ltb-true c n e)))) (λ e. rw e)
 
 -- for each party below n exactly those of the mask below k from which the symbol leads to it
 pub record IntoTo (n : ℕ) (t : Table) (s mask : ℕ) (r : Row) (k : ℕ) : Type 0 where

@@ -21,8 +21,10 @@ use Rattle.rebac.proofs.SearchLaws.{no_empty_word, long_word}
 use Rattle.rebac.proofs.BackwardLaws.{count_start}
 use Rattle.rebac.proofs.ReversedLaws.{back_count, back_length}
 use Rattle.search.specs.Word.{symbols_in}
+use Rattle.search.specs.declared.pair.PairIn.{PairIn}
+use Rattle.search.specs.declared.word.ShortWord.{ShortWord}
 use Rattle.search.specs.declared.word.Word.{Word}
-use Rattle.search.specs.promises.PairSearch.{PairQuery, table_graph}
+use Rattle.search.specs.promises.PairSearch.{table_graph}
 use Rattle.search.proofs.SearchLaws.{mark_law, symbols_length}
 use Rattle.word_test.specs.promises.Steps.{StepsFrom}
 use Rattle.word_test.specs.promises.Backward.{symbols_back, ways_from, depth_from, BackAs}
@@ -59,9 +61,24 @@ parts w h b = go w.symbols refl
         first zero l = absurd (omega arith)
         first (suc k) l = let e : suc k - 1 ≡ k = omega arith in rw e
 
-module _ {n first second : ℕ} {w : Word} (q : PairQuery n first second w) (t : Table) where
+module _ (q : PairIn) (x : ShortWord) where
+  abbrev n : ℕ
+  n = q.graph.parties
+
+  abbrev t : Table
+  t = q.graph.table
+
+  abbrev first : ℕ
+  first = q.first
+
+  abbrev second : ℕ
+  second = q.second
+
+  abbrev w : Word
+  w = x.word
+
   fits : w.len ≤ length w.symbols
-  fits = omega (arith, q.short.len, q.short.full)
+  fits = omega (arith, x.short.len, x.short.full)
 
   -- the two parties of the pair are visited
   marks : PartyMarks n (λ c v. test_bit v c) (with_bit (with_bit 0 first) second) (second ∷ first ∷ [])

@@ -24,6 +24,7 @@ use Rattle.search.proofs.WalkLaws.{within_with}
 use Rattle.search.proofs.RoomLaws.{count, count_ones, fewer}
 use Rattle.word_test.specs.promises.Backward.{symbols_back, way_from, ways_from, depth_from}
 use Rattle.word_test.specs.promises.Walk.{Onward, Covers, Look, LookQuery}
+use Rattle.word_test.specs.declared.back.SearchBack.{SearchBack}
 
 -- the symbols of a word read back: how many, and the first of them
 pub back_length : (w : Word) (from k : ℕ) → length (symbols_back w from k) ≡ k
@@ -111,14 +112,24 @@ module _ (n : ℕ) (t : Table) (w : Word) (starts from visited : ℕ) where
   crowded_none k all l crowded v h e more p o = crowded v h more p o (omega (arith, count_ones n all more))
 
 -- where walks stand before place `at`
-pub record Walked (n : ℕ) (t : Table) (w : Word) (starts from to visited parties all at : ℕ) : Type 0 where
-  pub after : from ≤ at
-  pub within : at ≤ to
+pub record Walked (n : ℕ) (t : Table) (w : Word) (starts from visited parties all at : ℕ) : Type 0 where
   pub covers : Covers n t w starts from (at - from) visited parties
   pub crowded : Crowded n t w starts from visited (at - from) all
 
 -- A look at walks: what a party that is not visited lacks where a mask lacks it.
-module _ (n : ℕ) (t : Table) {w : Word} {at deep : ℕ} (q : LookQuery w at n deep) (visited starts : ℕ) where
+module _ {s : SearchBack} {at deep : ℕ} (q : LookQuery s at deep) (visited : ℕ) where
+  abbrev n : ℕ
+  n = s.graph.parties
+
+  abbrev t : Table
+  t = s.graph.table
+
+  abbrev w : Word
+  w = s.word.word
+
+  abbrev starts : ℕ
+  starts = s.starts
+
   -- outside of the walks from the starts it has no way to one
   look_lost : (mask : ℕ) → Covers n t w starts 1 (at - 1) visited mask → (v : ℕ) → v < n → test_bit mask v ≡ false
       → test_bit visited v ≡ false → ways_from n t starts (with_bit visited v) v (symbols_back w 1 (at - 1)) ≡ 0
@@ -145,7 +156,7 @@ module _ (n : ℕ) (t : Table) {w : Word} {at deep : ℕ} (q : LookQuery w at n 
       (leb-true k far y) in
       let off = cover v h e visited (λ c z. z) o in
       let same = way_start (table_graph n t) (λ c x. test_bit x c) (λ c x. with_bit x c) (test_bit 4294967295) (λ c. true)
-      (λ c z. ones_bit 32 c (omega (arith, q.parties, z))) (symbols_back w from k) (with_bit visited v) v h in
+      (λ c z. ones_bit 32 c (omega (arith, s.graph.within, z))) (symbols_back w from k) (with_bit visited v) v h in
       both (same ∙ rw (back_take w k (at - 1) (omega (arith, q.some, more)), i) at on) off)
       (λ y. omega (arith, leb-false k far y, q.place))
 
@@ -164,7 +175,7 @@ module _ (n : ℕ) (t : Table) {w : Word} {at deep : ℕ} (q : LookQuery w at n 
   }
 
   pub look_all : Look n t w at visited starts deep 4294967295
-  look_all v h e o = both (ones_bit 32 v (omega (arith, q.parties, h))) e
+  look_all v h e o = both (ones_bit 32 v (omega (arith, s.graph.within, h))) e
 
   pub look_both : (near far : ℕ) → Covers n t w starts 1 (at - 1) visited near → deep + 1 < w.len → w.len - deep - 1 ≤ at
       → Covers n t w 4294967295 (w.len - deep - 1) (at - (w.len - deep - 1)) visited far

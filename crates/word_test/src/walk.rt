@@ -1,61 +1,60 @@
 // Walks past the visited parties, in which the others may repeat: where no walk leads to a party, no way back leads from it.
-ghost use Rattle.std.specs.Prelude.{◌-◌, ◌<◌, ◌≤◌};
-ghost use Rattle.limits.specs.Limits.{most_parties, mask_places};
-ghost use Rattle.word_test.specs.promises.Walk.{Onward, WalkQuery, Covers, LookQuery, Look};
-
+use crate::back::SearchBack;
 use crate::step::steps_from;
-use masks::Table;
-use search::Word;
 
-// The parties not visited to which the symbol leads from one of the mask.
-fn parties_onward(g: Table, n: usize, s: u8, mask: u32, visited: u32) -> u32
-    requires { (n ≤ most_parties) × (s < mask_places) }
-    ensures { Onward n g s mask visited n result }
-{
-    let mut parties: u32 = 0;
-    let mut c: usize = 0;
-    while c < n {
-        if (mask >> (c as u32)) & 1 == 1 {
-            parties = parties | steps_from(g.rows[c], n, s);
+impl SearchBack {
+    ghost use Rattle.std.specs.Prelude.{◌-◌, ◌<◌, ◌≤◌};
+    ghost use Rattle.limits.specs.Limits.{mask_places};
+    ghost use Rattle.word_test.specs.promises.Walk.{Onward, Covers, LookQuery, Look};
+
+    // The parties not visited to which the symbol leads from one of the mask.
+    fn parties_onward(&self, s: u8, mask: u32, visited: u32) -> u32
+        requires { s < mask_places }
+        ensures { Onward self.now.graph.parties self.now.graph.table s mask visited self.now.graph.parties result }
+    {
+        let mut parties: u32 = 0;
+        for c in 0..self.graph.parties {
+            if (mask >> (c as u32)) & 1 == 1 {
+                parties |= steps_from(&self.graph, c, s);
+            }
         }
-        c += 1;
+        (parties | visited) ^ visited
     }
-    (parties | visited) ^ visited
-}
 
-// The parties that walks from one of the mask, which stand before place `from`, reach before place `to` past the visited ones. None where
-// fewer parties stand on such walks than a way has, which has another at each place.
-pub fn walked(g: Table, w: Word, n: usize, visited: u32, mask: u32, from: usize, to: usize) -> u32
-    requires { WalkQuery w n from to }
-    ensures { Covers n g w mask from (to - from) visited result }
-{
-    let mut parties = (mask | visited) ^ visited;
-    let mut all = parties;
-    let mut at = from;
-    while at < to {
-        parties = parties_onward(g, n, w.symbols[at], parties, visited);
-        all = all | parties;
-        at += 1;
+    // The parties that walks from one of the mask, which stand before place `from`, reach before place `to` past the visited ones. None
+    // where fewer parties stand on such walks than a way has, which has another at each place.
+    fn walked(&self, visited: u32, mask: u32, from: usize, to: usize) -> u32
+        requires places { from ≤ to }
+        requires place { to ≤ self.now.word.word.len }
+        ensures { Covers self.now.graph.parties self.now.graph.table self.now.word.word mask from (to - from) visited result }
+    {
+        let mut parties = (mask | visited) ^ visited;
+        let mut all = parties;
+        for at in from..to {
+            parties = self.parties_onward(self.word.word.symbols[at], parties, visited);
+            all |= parties;
+        }
+        if all.count_ones() <= (to - from) as u32 {
+            return 0;
+        }
+        parties
     }
-    if u32::count_ones(all) <= (to - from) as u32 {
-        return 0;
-    }
-    parties
-}
 
-// The candidates before place `at` that a search back has to try: those with a walk from a start, and those from which walks lead back
-// along more symbols than `deep` in all.
-pub fn look(g: Table, w: Word, at: usize, n: usize, visited: u32, starts: u32, deep: usize) -> u32
-    requires { LookQuery w at n deep }
-    ensures { Look n g w at visited starts deep result }
-{
-    let near = walked(g, w, n, visited, starts, 1, at);
-    if w.len <= deep + 1 {
-        return near;
+    // The candidates before place `at` that a search back has to try: those with a walk from a start, and those from which walks lead back
+    // along more symbols than `deep` in all.
+    pub(crate) fn look(&self, at: usize, visited: u32, deep: usize) -> u32
+        requires { LookQuery self.now at deep }
+        ensures { Look self.now.graph.parties self.now.graph.table self.now.word.word at visited self.now.starts deep result }
+    {
+        let len = self.word.word.len;
+        let near = self.walked(visited, self.starts, 1, at);
+        if len <= deep + 1 {
+            return near;
+        }
+        let from = len - deep - 1;
+        if at < from {
+            return u32::MAX;
+        }
+        near | self.walked(visited, u32::MAX, from, at)
     }
-    let from = w.len - deep - 1;
-    if at < from {
-        return 4294967295;
-    }
-    near | walked(g, w, n, visited, 4294967295, from, at)
 }

@@ -10,8 +10,9 @@ use native.Mathlib.Decide.{ℕ_discrete}
 use native.Mathlib.Omega.{arith}
 use native.Mathlib.Numerals.{add-one}
 use lib.Dec.{eqb, leb}
-use lib.ListN.{length, replicate, take, drop, get_or, length-append, length-replicate}
-use lib.Seq.{take-set-lt, set_at, get_or-take, get_or_at, get_or-set_same, take-suc, length-take-le}
+use Rattle.std.specs.Prelude.{Result, MatchOption, Option as Maybe, Some, None, is_ok, is_some as some_given}
+use lib.ListN.{length, replicate, set, take, drop, get_or, length-append, length-replicate}
+use lib.Seq.{take-set-lt, set_at, get_or-take, get_or_at, take-suc, length-take-le}
 use borrow.Author.Tests.{eq-eqb, ne_eqb, eqb-true, le-leb, leb-true}
 use Rattle.lists.specs.Lists.{any_of, first_by, up_from, range}
 use Rattle.lists.proofs.Cases.{by_test, by_found, both, clash, and_left, and_right, and_both}
@@ -20,7 +21,7 @@ use Rattle.masks.specs.promises.Mask.{test_bit, bit_at, with_bit}
 use Rattle.masks.specs.promises.Table.{mask_at}
 use Rattle.masks.specs.declared.Table.{Table}
 use Rattle.masks.proofs.BitLaws.{none_from, some_from}
-use Rattle.rebac.specs.Matter.{Pair, pair}
+use Rattle.rebac.specs.Matter.{Pair}
 use Rattle.rebac.specs.Paths.{Graph, has}
 use Rattle.rebac.specs.promises.Options.{or_else}
 use Rattle.rebac.specs.promises.Forms.{Place, exactly, from, allows, free, fixed_then_free, form, place_graph, find_form}
@@ -28,14 +29,16 @@ use Rattle.rebac.specs.promises.Forms.{least_symbol, complete, next_same_length,
 use Rattle.rebac.proofs.MatterLaws.{graph_equal}
 use Rattle.rebac.proofs.FormLaws.{symbol_none_iff, symbol_below, same_step}
 use Rattle.search.specs.Word.{symbols_in}
-use Rattle.search.specs.promises.WordValues.{Short}
 use Rattle.search.specs.promises.Search.{place_on, mask_graph, form_of, FoundAs}
-use Rattle.search.specs.promises.PairSearch.{table_graph, search_pair}
-use Rattle.words.specs.promises.Next.{Alphabet, Places, NextAs, complete_zeros, SymbolPut, LeastPut, Completed}
+use Rattle.search.specs.promises.PairSearch.{graph_of, pair_of, search_form}
+use Rattle.words.specs.promises.Next.{Alphabet, Places, WordAs, complete_zeros, LeastPut, CompletedTo}
 use Rattle.search.specs.declared.word.Word.{Word}
-use Rattle.words.specs.declared.next.Next.{Next}
-use Rattle.search.specs.declared.search.Found.{Found}
-use Rattle.search.proofs.SearchLaws.{found_is}
+use Rattle.search.specs.declared.word.ShortWord.{ShortWord}
+use Rattle.search.specs.declared.word.Form.{Form}
+use Rattle.search.specs.declared.pair.PairIn.{PairIn}
+use Rattle.search.specs.declared.path.Path.{Path}
+use Rattle.search.specs.declared.path.NoPath.{NoPath}
+use Rattle.search.proofs.SearchLaws.{path_is}
 use Rattle.search.proofs.PairSearchLaws.{search_has}
 
 -- a place allows a symbol of the mask where the shift says so
@@ -97,35 +100,38 @@ find_below p a (suc m) s e x l h =
     (λ q. let z : a ≡ s = cc (rw (q, first_by) at e) in absurd (omega arith))
     (λ q. by_cases (ℕ_discrete x a) (λ o. ap p o ∙ q) (λ o. find_below p (suc a) m s (rw (q, first_by) at e) x (omega (arith, o)) h))
 
-module _ {al : List ℕ} {n : ℕ} {t : Table} (A : Alphabet al n t) (first second : ℕ) where
+module _ {al : List ℕ} (q : PairIn) (A : Alphabet al q.graph.parties q.graph.table) where
   abbrev G : Graph ℕ
-  G = table_graph n t
+  G = graph_of q.graph
 
   abbrev P : Pair
-  P = pair first second
+  P = pair_of q
 
   -- a search over masks is a search for a word of the form
-  pub found_form : (xs : List Place) (at visited : ℕ) (r : Found) → FoundAs at visited (search_pair n t first second xs) r
-      → r.found ≡ find_form al G P xs
+  pub found_form : (f : Form) (r : Result Path NoPath) → FoundAs 0 (with_bit 0 q.first) (search_form q f) r
+      → is_ok r ≡ find_form al G P (form_of f.fixed (symbols_in f.word.word))
   unfolding find_form place_graph
-  found_form xs at visited r h =
+  found_form f r h =
+      let n : ℕ = q.graph.parties in
+      let t : Table = q.graph.table in
+      let xs : List Place = form_of f.fixed (symbols_in f.word.word) in
       let e : mask_graph n t ≡ place_graph al G =
       graph_equal (mask_graph n t) (place_graph al G) refl (λ u v x. some_place al (mask_at t u v) (A.listed u v) x) in
-      found_is at visited (search_pair n t first second xs) r h ∙ search_has n t first second xs ∙ ap (λ (g : Graph Place). has g P xs) e
+      path_is 0 (with_bit 0 q.first) (search_form q f) r h ∙ search_has n t q.first q.second xs ∙ ap (λ (g : Graph Place). has g P xs) e
 
   -- of a word with a floor at its place, or with the symbol there fixed
-  pub found_floor : (w : Word) (fixed : List ℕ) (floor k : ℕ) {at : ℕ} → Places w fixed floor k → length fixed ≡ at → (r : Found)
-      → FoundAs 0 (with_bit 0 first) (search_pair n t first second (form_of at (symbols_in w))) r
-      → r.found ≡ find_form al G P (form fixed floor k)
+  pub found_floor : (w : ShortWord) (fixed : List ℕ) (floor k : ℕ) {at : ℕ} → Places w.word fixed floor k → length fixed ≡ at
+      → (r : Result Path NoPath) → FoundAs 0 (with_bit 0 q.first) (search_form q (record { word = w; fixed = at })) r
+      → is_ok r ≡ find_form al G P (form fixed floor k)
   found_floor w fixed floor k {at} p l r h =
-      found_form (form_of at (symbols_in w)) 0 (with_bit 0 first) r h
+      found_form (record { word = w; fixed = at }) r h
       ∙ ap (find_form al G P) (ap (form_of at) p ∙ form_floor_at fixed floor k at l)
 
-  pub found_fixed : (w : Word) (fixed : List ℕ) (s k : ℕ) {at : ℕ} → Places w fixed s k → length fixed ≡ at → (r : Found)
-      → FoundAs 0 (with_bit 0 first) (search_pair n t first second (form_of (at + 1) (symbols_in w))) r
-      → r.found ≡ find_form al G P (fixed_then_free (fixed ++ (s ∷ [])) k)
+  pub found_fixed : (w : ShortWord) (fixed : List ℕ) (s k : ℕ) {at : ℕ} → Places w.word fixed s k → length fixed ≡ at
+      → (r : Result Path NoPath) → FoundAs 0 (with_bit 0 q.first) (search_form q (record { word = w; fixed = at + 1 })) r
+      → is_ok r ≡ find_form al G P (fixed_then_free (fixed ++ (s ∷ [])) k)
   found_fixed w fixed s k {at} p l r h =
-      found_form (form_of (at + 1) (symbols_in w)) 0 (with_bit 0 first) r h
+      found_form (record { word = w; fixed = at + 1 }) r h
       ∙ ap (find_form al G P) (ap (form_of (at + 1)) p ∙ form_fixed_at fixed s k at l)
 
   -- the least symbol
@@ -171,85 +177,74 @@ module _ {al : List ℕ} {n : ℕ} {t : Table} (A : Alphabet al n t) (first seco
   complete_none fixed floor (suc k) e = rw (e, complete)
 
 -- a symbol put at a place
-module _ {w : Word} {at y : ℕ} {r : Word} (put : SymbolPut w at y r) where
-  pub put_places : (fixed : List ℕ) (x k : ℕ) → Places w fixed x k → length fixed ≡ at → at < w.len → Places r fixed y k
-  put_places fixed x k p l h =
-      rw (put.len, put.symbols, take-set-lt w.len w.symbols at y h, p) (set_at fixed x (replicate k 0) y at l)
-
-  pub put_at : at < length w.symbols → get_or r.symbols at 0 ≡ y
-  put_at h = rw put.symbols (get_or-set_same w.symbols at y 0 h)
+pub symbol_places : (w : Word) {at : ℕ} (y : ℕ) {r : Word} → r.len ≡ w.len → r.symbols ≡ set w.symbols at y
+    → (fixed : List ℕ) (x k : ℕ) → Places w fixed x k → length fixed ≡ at → at < w.len → Places r fixed y k
+symbol_places w {at} y n s fixed x k p l h =
+    rw (n, s, take-set-lt w.len w.symbols at y h, p) (set_at fixed x (replicate k 0) y at l)
 
 pub place_at : (w : Word) (fixed : List ℕ) (x k : ℕ) {at : ℕ} → Places w fixed x k → length fixed ≡ at → at < w.len
     → get_or w.symbols at 0 ≡ x
 place_at w fixed x k {at} p l h = sym (get_or-take w.len w.symbols at 0 h) ∙ rw p (get_or_at fixed x (replicate k 0) 0 at l)
 
--- where the search for the least symbol stands: the symbol tried is from the floor on and not above the least one
-pub record Rising (t : Word) (at : ℕ) (fixed : List ℕ) (floor k s : ℕ) : Type 0 where
-  pub places : Places t fixed (get_or t.symbols at 0) k
-  pub above : floor ≤ get_or t.symbols at 0
-  pub below : get_or t.symbols at 0 ≤ s
-
-pub record LeastTurn (n : ℕ) (g : Table) (a b : ℕ) (w : Word) (at : ℕ) (t : Word) : Type 0 where
-  pub short : Short t
-  pub len : t.len ≡ w.len
-  pub rising : (al fixed : List ℕ) (floor k s : ℕ) → Alphabet al n g → Places w fixed floor k → length fixed ≡ at
-      → least_symbol al (table_graph n g) (pair a b) fixed floor k ≡ some s → Rising t at fixed floor k s
+-- where the search for the least symbol stands: the symbol to be tried is from the floor on and not above the least one
+abbrev pub LeastTurn : PairIn → Word → ℕ → ℕ → Type 0
+LeastTurn q w at x = (al fixed : List ℕ) (floor k s : ℕ) → Alphabet al q.graph.parties q.graph.table → Places w fixed floor k
+    → length fixed ≡ at → least_symbol al (graph_of q.graph) (pair_of q) fixed floor k ≡ some s → (floor ≤ x) × (x ≤ s)
 
 -- where the filling of the places from `done` on stands: those before place i are done
-pub record Filling (al : List ℕ) (n : ℕ) (g : Table) (a b : ℕ) (done : List ℕ) (m : ℕ) (t : Word) (i : ℕ) : Type 0 where
+pub record Filling (al : List ℕ) (q : PairIn) (done : List ℕ) (m : ℕ) (t : Word) (i : ℕ) : Type 0 where
   pub now : List ℕ
   pub left : ℕ
   pub shape : symbols_in t ≡ now ++ replicate left 0
   pub place : length now ≡ i
-  pub same : complete_zeros al (table_graph n g) (pair a b) done m ≡ complete_zeros al (table_graph n g) (pair a b) now left
-  pub leads : find_form al (table_graph n g) (pair a b) (fixed_then_free now left) ≡ true
+  pub same : complete_zeros al (graph_of q.graph) (pair_of q) done m ≡ complete_zeros al (graph_of q.graph) (pair_of q) now left
+  pub leads : find_form al (graph_of q.graph) (pair_of q) (fixed_then_free now left) ≡ true
 
-pub record FillTurn (n : ℕ) (g : Table) (a b : ℕ) (w : Word) (from : ℕ) (t : Word) (i : ℕ) : Type 0 where
-  pub short : Short t
+pub record FillTurn (q : PairIn) (w : Word) (from : ℕ) (t : Word) (i : ℕ) : Type 0 where
   pub len : t.len ≡ w.len
-  pub filling : (al done : List ℕ) (m : ℕ) → Alphabet al n g → symbols_in w ≡ done ++ replicate m 0 → length done ≡ from
-      → find_form al (table_graph n g) (pair a b) (fixed_then_free done m) ≡ true → Filling al n g a b done m t i
+  pub filling : (al done : List ℕ) (m : ℕ) → Alphabet al q.graph.parties q.graph.table → symbols_in w ≡ done ++ replicate m 0 → length done ≡ from
+      → find_form al (graph_of q.graph) (pair_of q) (fixed_then_free done m) ≡ true → Filling al q done m t i
 
-module _ {al : List ℕ} {n : ℕ} {g : Table} (A : Alphabet al n g) {a b : ℕ} {done : List ℕ} {m : ℕ} {t : Word} {i : ℕ}
-    (h : Filling al n g a b done m t i) (size : length (symbols_in t) ≡ t.len) where
+module _ {al : List ℕ} (q : PairIn) (A : Alphabet al q.graph.parties q.graph.table) {done : List ℕ} {m : ℕ} {t : Word} {i : ℕ}
+    (h : Filling al q done m t i) (size : length (symbols_in t) ≡ t.len) where
   count : i + h.left ≡ t.len
   count =
       let e = ap length h.shape ∙ length-append h.now (replicate h.left 0) in
       omega (arith, size, e, h.place, length-replicate {A = ℕ} h.left 0)
 
-  pub filling_next : {r : Word} → i < t.len → LeastPut n g a b t i r → Filling al n g a b done m r (i + 1)
+  pub filling_next : {r : Word} → i < t.len → LeastPut q t i r → Filling al q done m r (i + 1)
   unfolding complete_zeros
   filling_next {r} l f = go h.left refl
     where
-      go : (k : ℕ) → h.left ≡ k → Filling al n g a b done m r (i + 1)
+      go : (k : ℕ) → h.left ≡ k → Filling al q done m r (i + 1)
       go zero e = absurd (omega (arith, count))
       go (suc k) e =
           let p : Places t h.now 0 k = h.shape ∙ rw e in
-          let q = sym (ap (find_form al (table_graph n g) (pair a b)) (form_zero h.now k)) ∙ rw e at h.leads in
-          let w = least_there A a b h.now 0 k q in
+          let leads = sym (ap (find_form al (graph_of q.graph) (pair_of q)) (form_zero h.now k)) ∙ rw e at h.leads in
+          let w = least_there q A h.now 0 k leads in
           record {
             now = h.now ++ (w.0 ∷ []);
             left = k;
             shape = f.least al h.now 0 k w.0 A p h.place w.1 ∙ sym (append_assoc h.now (w.0 ∷ []) (replicate k 0));
             place = length-append h.now (w.0 ∷ []) ∙ rw h.place;
-            same = h.same ∙ rw e (complete_step A a b h.now 0 k w.0 w.1);
-            leads = (least_is A a b h.now 0 k w.0 w.1).finds;
+            same = h.same ∙ rw e (complete_step q A h.now 0 k w.0 w.1);
+            leads = (least_is q A h.now 0 k w.0 w.1).finds;
           }
 
-  pub filling_end : t.len ≤ i → complete_zeros al (table_graph n g) (pair a b) done m ≡ some (symbols_in t)
+  pub filling_end : t.len ≤ i → complete_zeros al (graph_of q.graph) (pair_of q) done m ≡ some (symbols_in t)
   unfolding complete_zeros
   filling_end l =
       let z : h.left ≡ 0 = omega (arith, count) in
-      let q : symbols_in t ≡ h.now = h.shape ∙ rw z (append-nil h.now) in
-      h.same ∙ rw z (ap some (sym q))
+      let end : symbols_in t ≡ h.now = h.shape ∙ rw z (append-nil h.now) in
+      h.same ∙ rw z (ap some (sym end))
 
 -- no symbol is 32 or more
-pub complete_high : {al : List ℕ} {n : ℕ} {g : Table} → Alphabet al n g → (a b : ℕ) (fixed : List ℕ) (floor k : ℕ) → 32 ≤ floor
-    → complete al (table_graph n g) (pair a b) fixed floor k ≡ none
-complete_high {al} {n} {g} A a b fixed floor k h =
-    complete_none A a b fixed floor k
-    (by_found (least_symbol al (table_graph n g) (pair a b) fixed floor k) (λ e. e)
-    (λ s e. let l = least_is A a b fixed floor k s e in absurd (omega (arith, l.from, l.below))))
+pub complete_high : {al : List ℕ} (q : PairIn) → Alphabet al q.graph.parties q.graph.table → (fixed : List ℕ) (floor k : ℕ) → 32 ≤ floor
+    → complete al (graph_of q.graph) (pair_of q) fixed floor k ≡ none
+complete_high {al} q A fixed floor k h =
+    complete_none q A fixed floor k
+    (by_found (least_symbol al (graph_of q.graph) (pair_of q) fixed floor k) (λ e. e)
+    (λ s e. let l = least_is q A fixed floor k s e in absurd (omega (arith, l.from, l.below))))
 
 -- the next word of the same length: what a later place finds is the answer
 module _ (al : List ℕ) (g : Graph ℕ) (p : Pair) (w : List ℕ) where
@@ -283,15 +278,14 @@ module _ (w t : Word) (size : length (symbols_in w) ≡ w.len) (i : ℕ) (h : i 
   kept_fewer r q = let e : w.len - i ≡ suc (w.len - (i + 1)) = omega arith in q ∙ rw e
 
 -- where the raising stands: the symbols before place i are kept, zeros stand after, and no place from i on led to a word
-pub record RaiseTurn (n : ℕ) (g : Table) (a b : ℕ) (w t : Word) (i : ℕ) : Type 0 where
-  pub short : Short t
+pub record RaiseTurn (q : PairIn) (w t : Word) (i : ℕ) : Type 0 where
   pub len : t.len ≡ w.len
   pub within : i ≤ w.len
   pub kept : Kept w t i
-  pub passed : (al : List ℕ) → Alphabet al n g
-      → next_same_length al (table_graph n g) (pair a b) (take i (symbols_in w)) (drop i (symbols_in w)) ≡ none
+  pub passed : (al : List ℕ) → Alphabet al q.graph.parties q.graph.table
+      → next_same_length al (graph_of q.graph) (pair_of q) (take i (symbols_in w)) (drop i (symbols_in w)) ≡ none
 
-module _ {n : ℕ} {g : Table} {a b : ℕ} {w t : Word} {i : ℕ} (h : RaiseTurn n g a b w t i) (size : length (symbols_in w) ≡ w.len)
+module _ {q : PairIn} {w t : Word} {i : ℕ} (h : RaiseTurn q w t i) (size : length (symbols_in w) ≡ w.len)
     (l : 0 < i) where
   pub raise_place : i - 1 < w.len
   raise_place = omega (arith, h.within)
@@ -302,44 +296,47 @@ module _ {n : ℕ} {g : Table} {a b : ℕ} {w t : Word} {i : ℕ} (h : RaiseTurn
       h.kept ∙ ap (λ (j : ℕ). take j (symbols_in w) ++ replicate (w.len - j) 0) e
 
   -- the symbol before place i is raised,
-  pub raise_next : (r : Next) → Completed n g a b t (i - 1) suc r → {al : List ℕ} → Alphabet al n g
-      → NextAs (next_same_length al (table_graph n g) (pair a b) (take (i - 1) (symbols_in w)) (drop (i - 1) (symbols_in w))) r
+  pub raise_next : (r : Maybe ShortWord) → CompletedTo q t (i - 1) suc r → {al : List ℕ} → Alphabet al q.graph.parties q.graph.table
+      → WordAs (next_same_length al (graph_of q.graph) (pair_of q) (take (i - 1) (symbols_in w)) (drop (i - 1) (symbols_in w))) r
   raise_next r c {al} A =
       let e : i ≡ i - 1 + 1 = omega arith in
       let last = kept_last w t size (i - 1) raise_place last_kept in
       let len = kept_length w t size (i - 1) raise_place last_kept in
-      let q = c.1 al (take (i - 1) (symbols_in w)) (get_or (symbols_in w) (i - 1) 0) (w.len - (i - 1 + 1)) A last len in
+      let raised = c al (take (i - 1) (symbols_in w)) (get_or (symbols_in w) (i - 1) 0) (w.len - (i - 1 + 1)) A last len in
       let next : ℕ → Option (List ℕ) =
-      λ j. next_same_length al (table_graph n g) (pair a b) (take j (symbols_in w)) (drop j (symbols_in w)) in
+      λ j. next_same_length al (graph_of q.graph) (pair_of q) (take j (symbols_in w)) (drop j (symbols_in w)) in
       let z : next (i - 1 + 1) ≡ none = ap next (sym e) ∙ h.passed al A in
-      rw (same_here al (table_graph n g) (pair a b) (symbols_in w) (i - 1) _ (omega (arith, size, raise_place)) z refl, size) q
+      rw (same_here al (graph_of q.graph) (pair_of q) (symbols_in w) (i - 1) _ (omega (arith, size, raise_place)) z refl, size) raised
 
   -- or becomes a zero
-  pub raise_zero : {r : Word} → SymbolPut t (i - 1) 0 r → Kept w r (i - 1)
-  raise_zero {r} put =
+  pub raise_zero : {r : Word} → r.len ≡ t.len → r.symbols ≡ set t.symbols (i - 1) 0 → Kept w r (i - 1)
+  raise_zero {r} n s =
       let last = kept_last w t size (i - 1) raise_place last_kept in
       let len = kept_length w t size (i - 1) raise_place last_kept in
       kept_fewer w t size (i - 1) raise_place last_kept r
-      (put_places put (take (i - 1) (symbols_in w)) (get_or (symbols_in w) (i - 1) 0) (w.len - (i - 1 + 1)) last len
+      (symbol_places t 0 n s (take (i - 1) (symbols_in w)) (get_or (symbols_in w) (i - 1) 0) (w.len - (i - 1 + 1)) last len
       (omega (arith, raise_place, h.len)))
 
 -- a word that was found, or none
-pub next_not : (o : Option (List ℕ)) (r : Next) → NextAs o r → r.found ≡ false → o ≡ none
-next_not none r h f = refl
-next_not (some v) r h f = both h.0 f
+pub word_not : (o : Option (List ℕ)) (r : Maybe ShortWord) → WordAs o r → some_given r ≡ false → o ≡ none
+word_not o None h f = h
+word_not o (Some w) h f = both refl f
 
-pub next_some : (o : Option (List ℕ)) (r : Next) → NextAs o r → r.found ≡ true
-    → (v : List ℕ) × ((o ≡ some v) × (symbols_in r.word ≡ v))
-next_some none r h f = both f h
-next_some (some v) r h f = (v, (refl, h.1))
+pub word_some : (o : Option (List ℕ)) (r : Maybe ShortWord) → WordAs o r → some_given r ≡ true → (v : List ℕ) × (o ≡ some v)
+word_some o None h f = both f refl
+word_some o (Some w) h f = (symbols_in w.word, h)
 
-pub next_as : (o : Option (List ℕ)) (r : Next) (v : List ℕ) → o ≡ some v → r.found ≡ true → symbols_in r.word ≡ v → NextAs o r
-next_as o r v e f q = rw e (f, q)
+pub word_as : (o p : Option (List ℕ)) (r : Maybe ShortWord) → WordAs o r → some_given r ≡ true
+    → ((v : List ℕ) → o ≡ some v → p ≡ some v) → WordAs p r
+word_as o p None h f e = both f refl
+word_as o p (Some w) h f e = e (symbols_in w.word) h
 
-pub take_zeros : (m k : ℕ) → k ≤ m → take k (replicate {A = ℕ} m 0) ≡ replicate k 0
-take_zeros m zero h = refl
-take_zeros zero (suc k) h = absurd (omega arith)
-take_zeros (suc m) (suc k) h = ap (λ (l : List ℕ). 0 ∷ l) (take_zeros m k (omega arith))
+-- the word that was found, or else what another search gives
+pub word_or : {o p : Option (List ℕ)} (r result : Maybe ShortWord) {P : Type 0} → WordAs o r
+    → MatchOption r P (λ w. result ≡ Some w) → (P → o ≡ none → WordAs p result) → ((v : List ℕ) → o ≡ some v → p ≡ some v)
+    → WordAs p result
+word_or None result h m n s = n m h
+word_or (Some w) result h m n s = rw m (s (symbols_in w.word) h)
 
 -- the first longer word, length by length
 module _ (al : List ℕ) (g : Graph ℕ) (p : Pair) where
@@ -354,3 +351,23 @@ module _ (al : List ℕ) (g : Graph ℕ) (p : Pair) where
 
 pub or_found : (o p : Option (List ℕ)) (v : List ℕ) → o ≡ some v → or_else o p ≡ some v
 or_found o p v e = rw e
+
+-- a length that is tried: its zeros, completed, are its least word
+module _ (q : PairIn) (z : Word) (r : Maybe ShortWord) (len j : ℕ) (e : len ≡ suc j) (zeros : symbols_in z ≡ replicate len 0)
+    (c : CompletedTo q z 0 (λ s. s) r) {al : List ℕ} (A : Alphabet al q.graph.parties q.graph.table) (d : ℕ) (h : len ≤ d) where
+  tried : WordAs (complete al (graph_of q.graph) (pair_of q) [] 0 j) r
+  tried = c al [] 0 j A (zeros ∙ ap (λ (k : ℕ). replicate k 0) e) refl
+
+  -- the first of the longer words,
+  pub longer_found : some_given r ≡ true → WordAs (first_longer al (graph_of q.graph) (pair_of q) j (d - j)) r
+  longer_found f =
+      word_as (complete al (graph_of q.graph) (pair_of q) [] 0 j) _ r tried f
+      (λ v g. longer_step al (graph_of q.graph) (pair_of q) j d (omega arith) ∙ or_found _ _ v g)
+
+  -- or there is none, and the longer words are those after it
+  pub longer_not : some_given r ≡ false
+      → first_longer al (graph_of q.graph) (pair_of q) j (d - j) ≡ first_longer al (graph_of q.graph) (pair_of q) len (d - len)
+  longer_not f =
+      let one : len ≡ j + 1 = omega arith in
+      longer_step al (graph_of q.graph) (pair_of q) j d (omega arith)
+      ∙ rw (word_not (complete al (graph_of q.graph) (pair_of q) [] 0 j) r tried f, one)

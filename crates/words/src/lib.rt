@@ -3,4 +3,4 @@
 
 mod next;
 
-pub use next::{Next, complete_from, next_same_length, next_word, nothing, put_symbol, zeros};
+pub use next::{complete_from, next_same_length, next_word};

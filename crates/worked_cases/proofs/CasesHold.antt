@@ -6,6 +6,7 @@ use mathlib.Core.List.{List, [], ◌∷◌, map, Memᴰ}
 use mathlib.Core.Option.{Option, none, some}
 use lib.ListN.{length}
 use borrow.Author.Tests.{lt-leb}
+use Rattle.std.specs.Prelude.{Result, Ok, Err}
 use Rattle.lists.specs.Lists.{all_of, any_of, filter_by, first_by, flat_map, up_from, range}
 use Rattle.lists.proofs.Cases.{by_mem}
 use Rattle.rebac.specs.Matter.{Matter, pairs_of, permitted}
@@ -24,8 +25,9 @@ use Rattle.rule_bytes.specs.ListBytes.{encode_word, encode_term, encode_list, de
 use Rattle.rule_bytes.specs.ListBytes.{decode_term, decode_terms, decode_list}
 use Rattle.rule_text.specs.Text.{hex_digit, symbol_text, joined, word_text, term_text, list_text}
 use Rattle.conversion.specs.Calls.{list_of, bytes_of, verdict_in}
-use Rattle.conversion.specs.declared.verdict.VerdictReply.{VerdictReply}
-use Rattle.conversion.specs.declared.verdict.VerdictReply.TheVariants.{Refused, Convertible, NoWord, Rival}
+use Rattle.house_layout.specs.declared.reply.Refusal.{Refusal}
+use Rattle.conversion.specs.declared.verdict.Verdict.{Verdict}
+use Rattle.conversion.specs.declared.verdict.Verdict.TheVariants.{Convertible, NoWord, Rival}
 use Rattle.conversion.proofs.ReplyLaws.{reply_convertible}
 use Rattle.fields.specs.Decimal.{digits_in, decimal_text}
 use Rattle.report.specs.Report.{pair_text, refused_line, verdict_line, list_part}
@@ -33,16 +35,16 @@ use Rattle.worked_cases.specs.Text.{bytes_in}
 use Rattle.worked_cases.specs.Cases.{CaseRow, rows, RowHolds, listed_edge, listed_pair}
 
 -- a value where the reply is convertible
-abbrev if_convertible : {A : Type 0} → VerdictReply → A → Option A
-if_convertible (Convertible k) x = some x
-if_convertible (NoWord p) x = none
-if_convertible (Rival p q) x = none
-if_convertible (Refused x) y = none
+abbrev if_convertible : {A : Type 0} → Result Verdict Refusal → A → Option A
+if_convertible (Ok (Convertible k)) x = some x
+if_convertible (Ok (NoWord p)) x = none
+if_convertible (Ok (Rival p q)) x = none
+if_convertible (Err x) y = none
 
 -- what is held against each other for a row
 record Facts : Type 0 where
   words : List Word
-  reply : VerdictReply
+  reply : Result Verdict Refusal
   first_line : List ℕ
   term_lines : List ℕ
   bytes : Option (List ℕ)
@@ -85,7 +87,7 @@ pub same_at : {A B : Type 0} (f g : A → B) (l : List A) → map f l ≡ map g 
 same_at f g [] e m = absurd (Memᴰ.not-nil m)
 same_at f g (y ∷ ys) e m = by_mem m (λ q. rw q cc) (λ n. same_at f g ys (cc) n)
 
-if_convertible_lem : {A : Type 0} {r : VerdictReply} {k : ℕ} {x y : A} → r ≡ Convertible k → if_convertible r x ≡ if_convertible r y → x ≡ y
+if_convertible_lem : {A : Type 0} {r : Result Verdict Refusal} {k : ℕ} {x y : A} → r ≡ Ok (Convertible k) → if_convertible r x ≡ if_convertible r y → x ≡ y
 if_convertible_lem {x = x} {y = y} q e = let s : some x ≡ some y = rw q at e in cc
 
 row_holds : (c : CaseRow) → reckoned c ≡ expected c → RowHolds c
@@ -108,11 +110,11 @@ pub cases_hold : (c : CaseRow) → Memᴰ c rows → RowHolds c
 cases_hold c m = row_holds c (same_at reckoned expected rows computed m)
 
 -- a first line of more digits
-pub longer_line : verdict_line (Convertible 1024) ≡ bytes_in "convertible 1024\n"
+pub longer_line : verdict_line (Ok (Convertible 1024)) ≡ bytes_in "convertible 1024\n"
 unfolding digits_in decimal_text verdict_line bytes_in
 longer_line = refl
 
 -- "A list above 65,536 bytes: its first line, then "refused 14"."
-pub long_list : (M : Matter) (k : ℕ) → 65536 < k → list_part M (Convertible k) ≡ bytes_in "refused 14\n"
+pub long_list : (M : Matter) (k : ℕ) → 65536 < k → list_part M (Ok (Convertible k)) ≡ bytes_in "refused 14\n"
 unfolding digits_in decimal_text refused_line bytes_in
 long_list M k h = rw (lt-leb k 65536 h)

@@ -3,11 +3,11 @@ use native.Mathlib.Omega.{arith}
 use mathlib.Core.Path.{◌≡◌, refl}
 use mathlib.Core.List.{map, Memᴰ}
 use lib.ListN.{length}
+use Rattle.std.specs.Prelude.{Ok}
 use Rattle.lists.specs.Lists.{all_of, any_of, filter_by, flat_map, up_from, range}
 use Rattle.fields.specs.Numbers.{u16_at, u16_bytes}
 use Rattle.house_layout.specs.Layout.{record_size, owner_in, record_of}
 use Rattle.house_layout.specs.Fields.{fields_in_range, judge_record}
-use Rattle.house_layout.specs.declared.reply.Check.TheVariants as check
 use Rattle.house_file.specs.Check.{says, record_check, follow_chain, follow_chains, chains_check, check_of}
 use Rattle.house_file.specs.Meaning.{chain_from, chain_of, recorded, is_edge, is_permitted}
 use Rattle.graph.specs.FileMatter.{matter_of}
@@ -20,7 +20,7 @@ use Rattle.worked_cases.specs.Files.{file_a, file_a2}
 use Rattle.worked_cases.specs.Copies.{CopiedFile, copied_files, CopyHolds}
 use Rattle.worked_cases.proofs.CasesHold.{same_at}
 
-accepted : map (λ c. check_of c.file) copied_files ≡ map (λ c. check.Accepted) copied_files
+accepted : map (λ c. check_of c.file) copied_files ≡ map (λ c. Ok tt) copied_files
 unfolding all_of any_of up_from u16_at record_size owner_in record_of fields_in_range judge_record
     says record_check follow_chain follow_chains chains_check check_of
 accepted = refl
@@ -32,8 +32,8 @@ unfolding all_of any_of up_from u16_at record_size owner_in record_of fields_in_
     chain_records records_for header_bytes heads_by record_bytes canonical_of write_in write_call
 written = refl
 
-copied_accepted : {c : CopiedFile} → Memᴰ c copied_files → check_of c.file ≡ check.Accepted
-copied_accepted m = same_at (λ c. check_of c.file) (λ c. check.Accepted) copied_files accepted m
+copied_accepted : {c : CopiedFile} → Memᴰ c copied_files → check_of c.file ≡ Ok tt
+copied_accepted m = same_at (λ c. check_of c.file) (λ c. Ok tt) copied_files accepted m
 
 copied_written : {c : CopiedFile} → Memᴰ c copied_files → write_call c.file (length c.copy) ≡ writes c.copy
 copied_written m = same_at (λ c. write_call c.file (length c.copy)) (λ c. writes c.copy) copied_files written m

@@ -7,6 +7,7 @@ use mathlib.Core.List.{List, [], ◌∷◌, ◌++◌, map, Memᴰ, append-nil}
 use lib.ListN.{length}
 use lib.Dec.{eqb, ltb}
 use borrow.Author.Tests.{eqb-true, le-ltb, ne_eqb}
+use Rattle.std.specs.Prelude.{Ok, Err}
 use Rattle.lists.specs.Lists.{all_of, any_of, up_from}
 use Rattle.lists.proofs.Cases.{and_false}
 use Rattle.lists.proofs.ListLaws.{all_in, any_out}
@@ -16,7 +17,6 @@ use Rattle.house_layout.specs.Reply.{number_of}
 use Rattle.house_layout.specs.Fields.{fields_in_range, judge_record}
 use Rattle.house_file.specs.Check.{says, record_check, follow_chain, follow_chains, chains_check, check_of}
 use Rattle.house_file.specs.Meaning.{chain_from, chain_of, recorded, is_edge, is_permitted, WellFormed}
-use Rattle.house_layout.specs.declared.reply.Check.TheVariants as check
 use Rattle.house_file.proofs.WellFormedLaws.{accepted_iff_well_formed}
 use Rattle.graph.specs.FileMatter.{matter_of}
 use Rattle.conversion.specs.Calls.{verdict_in, verdict_call}
@@ -30,7 +30,7 @@ use Rattle.worked_cases.specs.Files.{file_a, file_a2, FileHolds, with_parties, w
 use Rattle.worked_cases.proofs.CasesHold.{same_at, cases_hold}
 use Rattle.worked_cases.proofs.CopiesHold.{copy_a}
 
-accepted : check_of file_a ≡ check.Accepted
+accepted : check_of file_a ≡ Ok tt
 unfolding all_of any_of up_from u16_at record_size owner_in record_of fields_in_range judge_record
     says record_check follow_chain follow_chains chains_check check_of
 accepted = refl
@@ -93,7 +93,7 @@ matter_same = λ i. record {
 }
 
 -- an accepted file with a row's matter has the row's reply and text
-of_row : (f : List ℕ) (c : CaseRow) → check_of f ≡ check.Accepted → matter_of f ≡ c.matter → RowHolds c → FileHolds f c
+of_row : (f : List ℕ) (c : CaseRow) → check_of f ≡ Ok tt → matter_of f ≡ c.matter → RowHolds c → FileHolds f c
 unfolding verdict_call file_text
 of_row f c e m h =
     let v : verdict_call f ≡ verdict_in c.matter = rw (e, m) in
@@ -124,7 +124,7 @@ pub file_a_length : length file_a ≡ 26
 file_a_length = refl
 
 -- the refusals, each by its file
-checked : map (λ c. check_of c.file) refused_files ≡ map (λ c. check.Refused c.refusal) refused_files
+checked : map (λ c. check_of c.file) refused_files ≡ map (λ c. Err c.refusal) refused_files
 unfolding all_of any_of up_from u16_at record_size owner_in record_of fields_in_range judge_record
     says record_check follow_chain follow_chains chains_check check_of
 checked = refl
@@ -139,8 +139,8 @@ lined = refl
 pub files_refused : (c : RefusedFile) → Memᴰ c refused_files → Refuses c
 unfolding verdict_call verdict_line file_text
 files_refused c m =
-    let e : check_of c.file ≡ check.Refused c.refusal =
-    same_at (λ c. check_of c.file) (λ c. check.Refused c.refusal) refused_files checked m in
+    let e : check_of c.file ≡ Err c.refusal =
+    same_at (λ c. check_of c.file) (λ c. Err c.refusal) refused_files checked m in
     record {
       check = e;
       number = same_at (λ c. number_of c.refusal) (λ c. c.number) refused_files numbered m;

@@ -1,5 +1,5 @@
 -- 01, "Threadings tried": cases A to J as rows of one list.
-use Rattle.std.specs.Prelude.{ℕ, ◌≡◌, Bool, ◌&&◌, List, [], ◌∷◌, eqb}
+use Rattle.std.specs.Prelude.{ℕ, ◌≡◌, Bool, ◌&&◌, List, [], ◌∷◌, Result, Ok, eqb}
 use Prim.Native.String.{String}
 use Rattle.std.proofs.Math.Option.{some}
 use Rattle.lists.specs.Lists.{any_of}
@@ -11,8 +11,9 @@ use Rattle.rebac.specs.NextWord.{pair_words}
 use Rattle.rule_bytes.specs.ListBytes.{decode_list}
 use Rattle.mining.specs.Values.{pair_value}
 use Rattle.conversion.specs.Calls.{list_of, bytes_of, verdict_in}
-use Rattle.conversion.specs.declared.verdict.VerdictReply.{VerdictReply}
-use Rattle.conversion.specs.declared.verdict.VerdictReply.TheVariants.{Convertible, NoWord, Rival}
+use Rattle.house_layout.specs.declared.reply.Refusal.{Refusal}
+use Rattle.conversion.specs.declared.verdict.Verdict.{Verdict}
+use Rattle.conversion.specs.declared.verdict.Verdict.TheVariants.{Convertible, NoWord, Rival}
 use Rattle.report.specs.Report.{verdict_line, list_part}
 use Rattle.worked_cases.specs.Text.{bytes_in}
 
@@ -21,7 +22,7 @@ pub record CaseRow : Type 0 where
   pub matter : Matter
   pub asked : Pair
   pub words : List Word
-  pub reply : VerdictReply
+  pub reply : Result Verdict Refusal
   -- the bytes of the mined list, where the reply is convertible
   pub bytes : List ℕ
   -- what permitconv prints: "its first line", and "a line for each term"
@@ -52,7 +53,7 @@ converts M p ws k bytes line terms = record {
   matter = M;
   asked = p;
   words = ws;
-  reply = Convertible k;
+  reply = Ok (Convertible k);
   bytes = bytes;
   first_line = line;
   term_lines = terms;
@@ -64,7 +65,7 @@ lacks_word M p line = record {
   matter = M;
   asked = p;
   words = [];
-  reply = NoWord (pair_value p);
+  reply = Ok (NoWord (pair_value p));
   bytes = [];
   first_line = line;
   term_lines = "";
@@ -75,7 +76,7 @@ has_rival M p ws q line = record {
   matter = M;
   asked = p;
   words = ws;
-  reply = Rival (pair_value p) (pair_value q);
+  reply = Ok (Rival (pair_value p) (pair_value q));
   bytes = [];
   first_line = line;
   term_lines = "";
@@ -123,4 +124,4 @@ pub record RowHolds (c : CaseRow) : Type 0 where
   pub reply : verdict_in c.matter ≡ c.reply
   pub first_line : verdict_line (verdict_in c.matter) ≡ bytes_in c.first_line
   pub term_lines : list_part c.matter (verdict_in c.matter) ≡ bytes_in c.term_lines
-  pub mined : (k : ℕ) → c.reply ≡ Convertible k → ListHolds c
+  pub mined : (k : ℕ) → c.reply ≡ Ok (Convertible k) → ListHolds c

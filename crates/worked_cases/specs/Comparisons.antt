@@ -1,32 +1,33 @@
 -- Rule lists held against files (02, Ticket 3), worked by hand.
-use Rattle.std.specs.Prelude.{ℕ, List, [], ◌∷◌}
+use Rattle.std.specs.Prelude.{ℕ, List, [], ◌∷◌, Option, None, Some, Result, Ok, Err}
 use Rattle.house_layout.specs.Reply.{Said, refusal, values}
 use Rattle.house_layout.specs.declared.reply.Refusal.TheVariants.{Length, RuleList}
 use Rattle.rebac.specs.Matter.{pair}
 use Rattle.mining.specs.Values.{pair_value}
-use Rattle.comparison.specs.declared.call.CompareReply.{CompareReply}
-use Rattle.comparison.specs.declared.call.CompareReply.TheVariants.{Refused, Same, OnlyFile, OnlyList}
+use Rattle.house_layout.specs.declared.reply.Refusal.{Refusal}
+use Rattle.comparison.specs.declared.call.Difference.{Difference}
+use Rattle.comparison.specs.declared.call.Difference.TheVariants.{OnlyFile, OnlyList}
 use Rattle.worked_cases.specs.Files.{file_a, file_a2}
 use Rattle.worked_cases.specs.Copies.{one_party}
 
 pub record ComparedList : Type 0 where
   pub file : List ℕ
   pub list : List ℕ
-  pub reply : CompareReply
+  pub reply : Result (Option Difference) Refusal
   -- the reply's number or values
   pub said : Said
 
 abbrev same : List ℕ → List ℕ → ComparedList
-same f l = record { file = f; list = l; reply = Same; said = values [] }
+same f l = record { file = f; list = l; reply = Ok None; said = values [] }
 
 abbrev by_file : List ℕ → List ℕ → ℕ → ℕ → ComparedList
-by_file f l a b = record { file = f; list = l; reply = OnlyFile (pair_value (pair a b)); said = values (a ∷ b ∷ 0 ∷ []) }
+by_file f l a b = record { file = f; list = l; reply = Ok (Some (OnlyFile (pair_value (pair a b)))); said = values (a ∷ b ∷ 0 ∷ []) }
 
 abbrev by_list : List ℕ → List ℕ → ℕ → ℕ → ComparedList
-by_list f l a b = record { file = f; list = l; reply = OnlyList (pair_value (pair a b)); said = values (a ∷ b ∷ 1 ∷ []) }
+by_list f l a b = record { file = f; list = l; reply = Ok (Some (OnlyList (pair_value (pair a b)))); said = values (a ∷ b ∷ 1 ∷ []) }
 
 abbrev broken : List ℕ → List ℕ → ComparedList
-broken f l = record { file = f; list = l; reply = Refused RuleList; said = refusal 9 }
+broken f l = record { file = f; list = l; reply = Err RuleList; said = refusal 9 }
 
 -- C's file: relations 0 to 1 and 1 to 2, permit (2,0)
 abbrev file_c : List ℕ
@@ -72,5 +73,5 @@ compared_lists =
     ∷ same one_party (1 ∷ 0 ∷ one_step [])
     ∷ broken one_party (1 ∷ 0 ∷ [])
     -- a file that is refused comes before a list that is
-    ∷ record { file = 1 ∷ []; list = 1 ∷ 0 ∷ []; reply = Refused Length; said = refusal 1 }
+    ∷ record { file = 1 ∷ []; list = 1 ∷ 0 ∷ []; reply = Err Length; said = refusal 1 }
     ∷ []

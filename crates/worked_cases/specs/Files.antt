@@ -1,14 +1,13 @@
 -- 01, "Threadings tried": case A's file, the same in edition 2 (02, Ticket 2), and files that are refused.
-use Rattle.std.specs.Prelude.{ℕ, ◌/◌, ◌%◌, ◌≡◌, List, [], ◌∷◌, ◌++◌, take, set}
+use Rattle.std.specs.Prelude.{ℕ, ◌/◌, ◌%◌, ◌≡◌, List, [], ◌∷◌, ◌++◌, take, set, Ok, Err}
 use Prim.Native.String.{String}
 use Rattle.house_layout.specs.Reply.{number_of}
 use Rattle.house_file.specs.Check.{check_of}
-use Rattle.house_layout.specs.declared.reply.Check.TheVariants as check
 use Rattle.house_layout.specs.declared.reply.Refusal.{Refusal}
 use Rattle.house_layout.specs.declared.reply.Refusal.TheVariants.{Length, Field, Link, Again, Unreached, Owner, Target, Kind, Repeat}
 use Rattle.graph.specs.FileMatter.{matter_of}
 use Rattle.conversion.specs.Calls.{bytes_of, verdict_call}
-use Rattle.conversion.specs.declared.verdict.VerdictReply.TheVariants.{Convertible}
+use Rattle.conversion.specs.declared.verdict.Verdict.TheVariants.{Convertible}
 use Rattle.report.specs.Report.{file_text}
 use Rattle.worked_cases.specs.Text.{bytes_in}
 use Rattle.worked_cases.specs.Cases.{CaseRow}
@@ -35,10 +34,10 @@ file_a2 =
 
 -- a file is accepted and says a row's matter, so that the calls answer as the row does
 pub record FileHolds (f : List ℕ) (c : CaseRow) : Type 0 where
-  pub accepted : check_of f ≡ check.Accepted
+  pub accepted : check_of f ≡ Ok tt
   pub matter : matter_of f ≡ c.matter
   pub reply : verdict_call f ≡ c.reply
-  pub bytes : (k : ℕ) → c.reply ≡ Convertible k → bytes_of (matter_of f) ≡ c.bytes
+  pub bytes : (k : ℕ) → c.reply ≡ Ok (Convertible k) → bytes_of (matter_of f) ≡ c.bytes
   pub text : file_text f ≡ bytes_in c.first_line ++ bytes_in c.term_lines
 
 -- a file and the refusal expected, with its number and what permitconv prints
@@ -107,6 +106,6 @@ refused_files =
 
 -- the check's reply, the number of it, and what permitconv prints
 pub record Refuses (c : RefusedFile) : Type 0 where
-  pub check : check_of c.file ≡ check.Refused c.refusal
+  pub check : check_of c.file ≡ Err c.refusal
   pub number : number_of c.refusal ≡ c.number
   pub text : file_text c.file ≡ bytes_in c.line

@@ -1,4 +1,5 @@
 -- What the writer's functions promise each other: the matter that header numbers and masks of kinds say, and the numbers of its records.
+use Rattle.std.specs.Prelude.{Some}
 use Rattle.std.specs.Prelude.{ℕ, ◌+◌, ◌*◌, ◌-◌, ◌≤◌, ◌<◌, ◌≡◌, true, List, map, length, get_or}
 use Rattle.lists.specs.Lists.{filter_by, flat_map}
 use Rattle.limits.specs.Limits.{most_parties, most_labels}
@@ -11,11 +12,11 @@ use Rattle.house_layout.specs.Layout.{header_size, owned_record, head_place}
 use Rattle.house_layout.specs.promises.Kinds.{permit_bit, bit_of}
 use Rattle.house_layout.specs.declared.header.Header.{Header}
 use Rattle.house_layout.specs.declared.record.Record.{Record}
-use Rattle.house_layout.specs.declared.record.OwnerByte.TheVariants.{Party}
 use Rattle.canonical.specs.Canonical.{Entry, entry, kind_bytes, says_kind, first_of, chain_records, record_bytes}
 use Rattle.canonical.specs.Canonical.{entries_of, count_of, written_edition}
 use Rattle.canonical.specs.Shape.{InLimits}
 use Rattle.canonical.specs.declared.count.Firsts.{Firsts}
+use Rattle.canonical.specs.declared.write.Chain.{Chain}
 
 -- the matter that the header's numbers and the masks of kinds say
 abbrev pub matter_in : Header → Table → Matter
@@ -67,17 +68,17 @@ pub record RecordFits (x : Record) (at size : ℕ) : Type 0 where
   pub target : x.target < 256
   pub kind : x.kind < 256
   pub next : x.next < 65536
-  pub owner : (u : ℕ) → x.owner ≡ Party u → u < 256
+  pub owner : (u : ℕ) → x.owner ≡ Some u → u < 256
   pub room : at + owned_record ≤ size
 
--- one pair's records from `number` on, in a chain that ends before `end`; record 1 stands at `base`,
-pub record PairFits (owner target labels mask base number end size : ℕ) : Type 0 where
-  pub parties : (owner < 256) × (target < 256)
+-- one pair's records from `number` on, in a chain,
+pub record PairFits (c : Chain) (target labels mask number size : ℕ) : Type 0 where
+  pub parties : (c.owner < 256) × (target < 256)
   pub bounded : labels ≤ most_labels
   pub first : 1 ≤ number
-  pub kinds : number + length (kinds_in labels mask) ≤ end
-  pub last : end < 65536
-  pub room : base + owned_record * (end - 1) ≤ size
+  pub kinds : number + length (kinds_in labels mask) ≤ c.end
+  pub last : c.end < 65536
+  pub room : c.base + owned_record * (c.end - 1) ≤ size
 
 -- party u's records,
 pub record PartyFits (h : Header) (k : Table) (u number end size : ℕ) : Type 0 where

@@ -1,5 +1,5 @@
 -- What the functions that go through the pairs promise each other.
-use Rattle.std.specs.Prelude.{ℕ, ◌+◌, ◌/◌, ◌%◌, ◌≤◌, ◌≡◌, ◌⊎◌, List, ◌++◌, map, length, drop}
+use Rattle.std.specs.Prelude.{ℕ, ◌+◌, ◌/◌, ◌%◌, ◌≤◌, ◌≡◌, ◌⊎◌, List, ◌++◌, map, length, drop, Result, Ok, Err}
 use Rattle.lists.specs.Lists.{range}
 use Rattle.limits.specs.Limits.{most_parties, pair_numbers}
 use Rattle.masks.specs.promises.Mask.{test_bit}
@@ -14,8 +14,13 @@ use Rattle.graph.specs.promises.Archive.{Shows}
 use Rattle.rule_bytes.specs.ListBytes.{encode_list}
 use Rattle.mining.specs.promises.Building.{problem_in}
 use Rattle.mining.specs.promises.Taking.{PairMarks}
-use Rattle.conversion.specs.declared.verdict.VerdictReply.{VerdictReply}
-use Rattle.conversion.specs.declared.verdict.VerdictReply.TheVariants.{Convertible}
+use Rattle.mining.specs.declared.build.Pair.{Pair as PairValue}
+use Rattle.mining.specs.declared.build.Obstacle.{Obstacle}
+use Rattle.mining.specs.declared.build.Obstacle.TheVariants as obstacle
+use Rattle.house_layout.specs.declared.reply.Refusal.{Refusal}
+use Rattle.conversion.specs.declared.verdict.Verdict.{Verdict as VerdictValue}
+use Rattle.conversion.specs.declared.verdict.Verdict.TheVariants.{Convertible, NoWord, Rival}
+use Rattle.conversion.specs.declared.verdict.Hindered.{Hindered}
 use Rattle.conversion.specs.declared.verdict.Judged.{Judged}
 use Rattle.conversion.specs.Calls.{one_if, verdict_reply}
 
@@ -23,18 +28,12 @@ use Rattle.conversion.specs.Calls.{one_if, verdict_reply}
 unfoldable pub archive_bytes : Archive → List ℕ
 archive_bytes a = encode_list (plain_list (mine (problem_in a)))
 
-unfoldable pub archive_verdict : Archive → VerdictReply
+unfoldable pub archive_verdict : Archive → Result VerdictValue Refusal
 archive_verdict a = verdict_reply (length (archive_bytes a)) (verdict (problem_in a))
 
 -- the bytes of the longest term
 abbrev pub longest_term : ℕ
 longest_term = 31778
-
--- where a term is built that begins at place `size` of the list: there, or at the limit
-pub record PlaceOf (size limit at : ℕ) : Type 0 where
-  pub before : at ≤ size
-  pub within : at ≤ limit
-  pub same : size ≤ limit → at ≡ size
 
 -- what the verdict needs: an archive that shows a matter, and in a slice of this size room for a term at the limit, or for the list
 pub record JudgeRoom (a : Archive) (limit size : ℕ) : Type 0 where
@@ -46,21 +45,26 @@ pub record ListWritten (a : Archive) (old new : List ℕ) (row : Row) : Type 0 w
   pub bytes : new ≡ archive_bytes a ++ drop (length (archive_bytes a)) old
   pub marks : PairMarks a (mine (problem_in a)) row
 
+-- what is in a pair's way, as the verdict says it
+abbrev pub verdict_by : PairValue → Obstacle → VerdictValue
+verdict_by p obstacle.NoWord = NoWord p
+verdict_by p (obstacle.Rival q) = Rival p q
+
 -- the verdict, and the list where it is within the limit
-pub record JudgedAs (a : Archive) (limit : ℕ) (old new : List ℕ) (j : Judged) : Type 0 where
-  pub reply : j.reply ≡ archive_verdict a
-  pub list : (k : ℕ) → Convertible k ≡ archive_verdict a → k ≤ limit → ListWritten a old new j.marks
+abbrev pub JudgedAs : Archive → ℕ → List ℕ → List ℕ → Result Judged Hindered → Type 0
+JudgedAs a limit old new (Ok j) = (Ok (Convertible j.size) ≡ archive_verdict a) × (j.size ≤ limit → ListWritten a old new j.marks)
+JudgedAs a limit old new (Err h) = Ok (verdict_by h.pair h.obstacle) ≡ archive_verdict a
 
 -- the longest list that is kept while the verdict is found
 abbrev pub kept_list : ℕ
 kept_list = 65536
 
 -- what writing the list needs: a convertible archive that shows a matter, its list and marks where they are kept, and room in an output
-pub record ListRoom (a : Archive) (list : List ℕ) (row : Row) (size output : ℕ) : Type 0 where
+pub record ListRoom (a : Archive) (list : List ℕ) (j : Judged) (output : ℕ) : Type 0 where
   pub shown : (M : Matter) × Shows M a
-  pub verdict : Convertible size ≡ archive_verdict a
-  pub kept : size ≤ kept_list → (old : List ℕ) × ListWritten a old list row
-  pub room : size ≤ output
+  pub verdict : Ok (Convertible j.size) ≡ archive_verdict a
+  pub kept : j.size ≤ kept_list → (old : List ℕ) × ListWritten a old list j.marks
+  pub room : j.size ≤ output
 
 -- the bits of a row of masks as 1,024 bytes
 unfoldable pub row_bytes : Row → List ℕ

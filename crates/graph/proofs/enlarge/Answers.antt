@@ -1,8 +1,8 @@
+-- The row put in has what holds of its party, the others keep what they had; past the last party nothing holds.
 use mathlib.Core.Path.{sym, ◌∙◌}
 use mathlib.Core.Logic.{by_cases}
 use Prim.Native.Nat.{◌≤◌}
 use native.Mathlib.Decide.{ℕ_discrete, dec_lt}
-use borrow.Author.Rules.{rules}
 use native.Mathlib.Omega.{arith}
 use Rattle.masks.proofs.MaskLaws.{zero_bit}
 use Rattle.graph.proofs.SymbolLaws.{holds_outside, apart_first}
@@ -10,14 +10,13 @@ use Rattle.graph.proofs.enlarge.Goals as goal
 
 pub loop-u-init : goal.loop-u-init
 loop-u-init c =
-    record { inside = search rules; filled = λ M r x v s h. absurd (omega arith); empty = λ x v h. c.empty_table-graph.ensures x v }
+    record { filled = λ M r x v s h. absurd (omega arith); empty = λ x v h. c.empty_table-graph.ensures x v }
 
 pub loop-u-preserved : goal.loop-u-preserved
 loop-u-preserved c =
     let l = c.loop-u in
     let row = c.put_row-graph.ensures in
     record {
-      inside = search rules;
       filled = λ M r x v s h. by_cases (ℕ_discrete x l.u)
           (λ q. rw (q, row.same v) (c.enlarge_row.ensures M r v s))
           (λ q. rw (row.other x v q) (l.invariant.filled M r x v s (omega (arith, q))));
@@ -29,6 +28,6 @@ returns c =
     let l = c.loop-u in
     let e : c.args.h.parties ≤ l.u = c.loop-u-test.false in
     λ M r u v s. by_cases (dec_lt u c.args.h.parties)
-    (λ h. l.invariant.filled M r u v s (omega (arith, e, h)))
-    (λ h. rw (l.invariant.empty u v (omega (arith, l.invariant.inside, h)))
+    (λ h. l.invariant.filled M r u v s (omega arith))
+    (λ h. rw (l.invariant.empty u v (omega arith))
     (zero_bit s ∙ sym (holds_outside M u v s (apart_first M u v (omega (arith, r.parties))))))

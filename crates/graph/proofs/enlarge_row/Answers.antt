@@ -1,3 +1,4 @@
+-- The mask put in has what holds of its pair, the others keep what they had; nothing holds of a party to itself or past the last one.
 use mathlib.Core.Path.{◌≡◌, sym, ◌∙◌}
 use mathlib.Core.Logic.{by_cases}
 use mathlib.Core.Bool.{false}
@@ -17,18 +18,16 @@ loop-v-preserved c =
     let below : l.v < a.h.parties = c.loop-v-test.true in
     elim c.if-v-u.branch [
       | then-v-u w ↦ rw w.row-is (record {
-        inside = omega (arith, below);
         filled = λ M r x s h. by_cases (ℕ_discrete x l.v)
             (λ q.
             let party : a.u < M.parties = omega (arith, r.parties, c.requires.1) in
             let other : l.v < M.parties = omega (arith, r.parties, below) in
             rw (q, w.put_mask-row.ensures.same)
-            (w.symbols.ensures s ∙ symbols_hold M a.h a.k r a.u l.v party other (λ e. w.if-v-u.true (sym e)) s))
+            (w.symbols.ensures s ∙ symbols_hold M a.h a.k.now r a.u l.v party other (λ e. w.if-v-u.true (sym e)) s))
             (λ q. rw (w.put_mask-row.ensures.other x q) (l.invariant.filled M r x s (omega (arith, q))));
         empty = λ x h. w.put_mask-row.ensures.other x (λ q. omega arith) ∙ l.invariant.empty x (omega arith);
       })
       | else-v-u w ↦ rw w.row-is (record {
-        inside = omega (arith, below);
         filled = λ M r x s h. by_cases (ℕ_discrete x l.v)
             (λ q.
             let itself : apart M a.u l.v ≡ false = apart_self M a.u l.v (sym w.if-v-u.false) in
@@ -44,7 +43,7 @@ returns c =
     let a = c.args in
     let e : a.h.parties ≤ l.v = c.loop-v-test.false in
     λ M r v s. by_cases (dec_lt v a.h.parties)
-    (λ h. l.invariant.filled M r v s (omega (arith, e, h)))
+    (λ h. l.invariant.filled M r v s (omega arith))
     (λ h.
     let outside : apart M a.u v ≡ false = apart_second M a.u v (omega (arith, r.parties)) in
-    rw (l.invariant.empty v (omega (arith, l.invariant.inside, h))) (zero_bit s ∙ sym (holds_outside M a.u v s outside)))
+    rw (l.invariant.empty v (omega arith)) (zero_bit s ∙ sym (holds_outside M a.u v s outside)))

@@ -1,31 +1,24 @@
 -- The symbol's kind decides.
 use mathlib.Core.Path.{◌≡◌, sym, ap, ◌∙◌}
 use mathlib.Core.Bool.{not}
-use Prim.Native.Nat.{◌%◌, ◌<◌}
-use native.Mathlib.Nat.{mod-lt}
+use Prim.Native.Nat.{◌%◌}
 use native.Mathlib.Omega.{arith}
-use lib.Dec.{lit<}
 use Rattle.graph.proofs.SymbolLaws.{symbol_not, symbol_kind}
 use Rattle.graph.proofs.symbol_in.Goals as goal
 
-pub returns-then-kind-eq0 : goal.returns-then-kind-eq0
-returns-then-kind-eq0 c = c.has.ensures ∙ sym (symbol_kind _ _ _ _ (sym c.uses_kind.ensures ∙ c.if-uses_kind.true) 0 c.if-kind-eq0.true)
+pub returns-in-0 : goal.returns-in-0
+returns-in-0 c = c.has.ensures ∙ sym (symbol_kind _ _ _ _ (sym c.uses_kind.ensures ∙ c.if-uses_kind.true) 0 c.in-0.is)
 
-pub returns-then-kind-eq1 : goal.returns-then-kind-eq1
-returns-then-kind-eq1 c =
-    ap not c.has-then-kind-eq1.ensures
-    ∙ sym (symbol_kind _ _ _ _ (sym c.uses_kind.ensures ∙ c.if-uses_kind.true) 1 c.if-kind-eq1.true)
+pub returns-in-1 : goal.returns-in-1
+returns-in-1 c = ap not c.has-in-1.ensures ∙ sym (symbol_kind _ _ _ _ (sym c.uses_kind.ensures ∙ c.if-uses_kind.true) 1 c.in-1.is)
 
-pub returns-then-kind-eq2 : goal.returns-then-kind-eq2
-returns-then-kind-eq2 c =
-    c.has-then-kind-eq2.ensures ∙ sym (symbol_kind _ _ _ _ (sym c.uses_kind.ensures ∙ c.if-uses_kind.true) 2 c.if-kind-eq2.true)
+pub returns-in-2 : goal.returns-in-2
+returns-in-2 c = c.has-in-2.ensures ∙ sym (symbol_kind _ _ _ _ (sym c.uses_kind.ensures ∙ c.if-uses_kind.true) 2 c.in-2.is)
 
-pub returns-then-uses_kind : goal.returns-then-uses_kind
-returns-then-uses_kind c =
-    let s = c.args.s in
-    let l : s % 4 < 4 = mod-lt s (lit< tt) in
-    let e : s % 4 ≡ 3 = omega (arith, l, c.if-kind-eq2.false, c.if-kind-eq1.false, c.if-kind-eq0.false) in
-    ap not c.has-then-uses_kind.ensures ∙ sym (symbol_kind _ _ _ _ (sym c.uses_kind.ensures ∙ c.if-uses_kind.true) 3 e)
+pub returns-in_default : goal.returns-in_default
+returns-in_default c =
+    let e : c.args.s % 4 ≡ 3 = omega arith in
+    ap not c.has-in_default.ensures ∙ sym (symbol_kind _ _ _ _ (sym c.uses_kind.ensures ∙ c.if-uses_kind.true) 3 e)
 
-pub returns : goal.returns
-returns c = sym (symbol_not _ _ _ _ (sym c.uses_kind.ensures ∙ c.if-uses_kind.false))
+pub returns-else-uses_kind : goal.returns-else-uses_kind
+returns-else-uses_kind c = c.if-uses_kind.false ∙ sym (symbol_not _ _ _ _ (sym c.uses_kind.ensures ∙ c.if-uses_kind.false))

@@ -1,4 +1,4 @@
-use borrow.Author.Rules.{rules}
+-- Each symbol in turn, put in where it holds.
 use mathlib.Core.Path.{sym, ◌∙◌}
 use Rattle.masks.proofs.MaskLaws.{filled_none, filled_with, filled_without}
 use Rattle.graph.specs.promises.Archive.{symbol_in}
@@ -6,16 +6,14 @@ use Rattle.graph.proofs.symbols.Goals.{then-symbol_in, else-symbol_in}
 use Rattle.graph.proofs.symbols.Goals as goal
 
 pub loop-s-init : goal.loop-s-init
-loop-s-init c = (search rules, filled_none _)
+loop-s-init c = filled_none _
 
 pub loop-s-preserved : goal.loop-s-preserved
 loop-s-preserved c =
     let l = c.loop-s in
     let p = symbol_in c.args.language c.args.out c.args.back in
-    let said = sym c.symbol_in.ensures in (
-      search rules,
-      elim c.if-symbol_in.branch [
-        | then-symbol_in w ↦ rw (w.mask-is ∙ w.with-mask.ensures) (filled_with p l.s l.mask l.invariant.1 (said ∙ w.if-symbol_in.true))
-        | else-symbol_in w ↦ rw w.mask-is (filled_without p l.s l.mask l.invariant.1 (said ∙ w.if-symbol_in.false))
-      ],
-    )
+    let said = sym c.symbol_in.ensures in
+    elim c.if-symbol_in.branch [
+      | then-symbol_in w ↦ rw (w.mask-is ∙ w.with-mask.ensures) (filled_with p l.s l.mask l.invariant (said ∙ w.if-symbol_in.true))
+      | else-symbol_in w ↦ rw w.mask-is (filled_without p l.s l.mask l.invariant (said ∙ w.if-symbol_in.false))
+    ]

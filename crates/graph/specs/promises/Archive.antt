@@ -1,5 +1,5 @@
 -- The numbers and masks that stand for a file's matter.
-use Rattle.std.specs.Prelude.{ℕ, zero, suc, ◌/◌, ◌%◌, ◌≤◌, ◌<◌, ◌≡◌, Bool, not, ◌&&◌, List}
+use Rattle.std.specs.Prelude.{ℕ, zero, suc, ◌/◌, ◌%◌, ◌≤◌, ◌<◌, ◌≡◌, Bool, not, ◌&&◌, List, Result, Ok, Err}
 use Rattle.lists.specs.Lists.{member}
 use Rattle.limits.specs.Limits.{most_parties, most_labels, last_language}
 use Rattle.masks.specs.promises.Mask.{test_bit}
@@ -9,9 +9,8 @@ use Rattle.rebac.specs.Matter.{Matter}
 use Rattle.rebac.specs.Symbols.{kinds, holds}
 use Rattle.house_file.specs.Check.{check_of}
 use Rattle.house_layout.specs.declared.header.Header.{Header}
-use Rattle.house_layout.specs.declared.reply.Check.TheVariants.{Accepted}
+use Rattle.house_layout.specs.declared.reply.Refusal.{Refusal}
 use Rattle.graph.specs.declared.Archive.{Archive}
-use Rattle.graph.specs.declared.Loading.{Loading}
 use Rattle.graph.specs.FileMatter.{matter_of, Limits}
 
 -- the archive stands for the matter: its numbers, at every u, v and symbol the enlarged graph, and the permit table
@@ -24,10 +23,10 @@ pub record Shows (M : Matter) (a : Archive) : Type 0 where
   pub graph : (u v s : ℕ) → test_bit (mask_at a.graph u v) s ≡ holds M u v s
   pub permits : (u v : ℕ) → test_bit (mask_in a.permits u) v ≡ M.permit u v
 
--- what loading any bytes gives: the check's reply, and the archive where it is accepted
-pub record LoadedAs (f : List ℕ) (r : Loading) : Type 0 where
-  pub reply : r.reply ≡ check_of f
-  pub archive : check_of f ≡ Accepted → Shows (matter_of f) r.archive
+-- what loading any bytes gives: the archive where the check accepts, otherwise its refusal
+abbrev pub LoadedAs : List ℕ → Result Archive Refusal → Type 0
+LoadedAs f (Ok a) = (check_of f ≡ Ok tt) × Shows (matter_of f) a
+LoadedAs f (Err x) = check_of f ≡ Err x
 
 -- a symbol of this kind holds between two parties with the labels `out` one way and `back` the other
 abbrev pub kind_in : ℕ → ℕ → ℕ → ℕ → Bool

@@ -1,5 +1,5 @@
 -- What the functions that read a file promise each other: marks stand for the records reached, a row for the kinds of a chain.
-use Rattle.std.specs.Prelude.{ℕ, ◌-◌, ◌≤◌, ◌<◌, ◌≡◌, true, not, List, [], ◌++◌, length, get_or, eqb}
+use Rattle.std.specs.Prelude.{ℕ, ◌-◌, ◌≤◌, ◌<◌, ◌≡◌, true, not, List, [], ◌++◌, length, get_or, Result, Ok, Err, eqb}
 use Rattle.lists.specs.Lists.{any_of, member}
 use Rattle.limits.specs.Limits.{most_parties, most_labels, most_records}
 use Rattle.masks.specs.promises.Mask.{test_bit}
@@ -10,16 +10,9 @@ use Rattle.house_file.specs.Check.{says, Followed, passed, enough_turns, follow_
 use Rattle.house_layout.specs.promises.Kinds.{bit_of}
 use Rattle.house_layout.specs.declared.header.Header.{Header}
 use Rattle.house_file.specs.Meaning.{recorded}
-use Rattle.house_file.specs.declared.chain.Chain.{Chain}
-use Rattle.house_file.specs.declared.decode.Chains.{Chains}
-use Rattle.house_layout.specs.declared.reply.Check.TheVariants.{Accepted, Refused}
 use Rattle.masks.specs.declared.Row.{Row}
-use Rattle.house_layout.specs.declared.reply.Check.{Check}
-
--- the reply for what following chains gave
-abbrev pub check_reply : Followed → Check
-check_reply (stopped x) = Refused x
-check_reply (passed c) = Accepted
+use Rattle.masks.specs.declared.Table.{Table}
+use Rattle.house_layout.specs.declared.reply.Refusal.{Refusal}
 
 -- a file whose header and length passed, and its numbers
 pub record Framed (f : List ℕ) (h : Header) : Type 0 where
@@ -47,13 +40,20 @@ RowOf f row c = (t k : ℕ) → legal_kind (labels_of f) k ≡ true → test_bit
 abbrev pub chain_followed : List ℕ → ℕ → List ℕ → Followed
 chain_followed f u before = follow_chain f u (enough_turns f) before [] (head_of f u)
 
+-- what was read of party u's chain that could be followed: its records are marked, and the row has their kinds
+pub record ChainKept (f : List ℕ) (u : ℕ) (before : List ℕ) (row : Row) (marks : List ℕ) : Type 0 where
+  pub chain : List ℕ
+  pub followed : chain_followed f u before ≡ passed chain
+  pub marked : RecordMarks marks (before ++ chain)
+  pub kinds : RowOf f row chain
+
 -- what was read of party u's chain, and the marks then
-pub record ChainRead (f : List ℕ) (u : ℕ) (before : List ℕ) (r : Chain) (marks : List ℕ) : Type 0 where
-  pub reply : r.reply ≡ check_reply (chain_followed f u before)
-  pub kept : (c : List ℕ) → chain_followed f u before ≡ passed c → RecordMarks marks (before ++ c) × RowOf f r.row c
+abbrev pub ChainRead : List ℕ → ℕ → List ℕ → Result Row Refusal → List ℕ → Type 0
+ChainRead f u before (Ok row) marks = ChainKept f u before row marks
+ChainRead f u before (Err x) marks = chain_followed f u before ≡ stopped x
 
 -- what was read of all chains
-pub record ChainsRead (f : List ℕ) (r : Chains) : Type 0 where
-  pub reply : r.reply ≡ chains_check f
-  pub kinds : chains_check f ≡ Accepted → (u v k : ℕ) → legal_kind (labels_of f) k ≡ true
-      → test_bit (mask_at r.kinds u v) (bit_of k) ≡ recorded f u v k
+abbrev pub ChainsRead : List ℕ → Result Table Refusal → Type 0
+ChainsRead f (Ok kinds) = (chains_check f ≡ Ok tt)
+    × ((u v k : ℕ) → legal_kind (labels_of f) k ≡ true → test_bit (mask_at kinds u v) (bit_of k) ≡ recorded f u v k)
+ChainsRead f (Err x) = chains_check f ≡ Err x

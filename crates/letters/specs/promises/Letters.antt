@@ -1,13 +1,8 @@
 -- A graph written in other letters. The letters below `base` stand for symbols, the least of those that hold for the same pairs;
 -- those from `base` to below `end` are classes: a class is one of the graph's masks, and holds for a pair whose mask has all its symbols.
-use Rattle.std.specs.Prelude.{ℕ, ◌+◌, ◌*◌, ◌≤◌, ◌<◌, ◌≡◌, true, List, map, get_or}
-use Rattle.limits.specs.Limits.{most_parties, symbol_count}
-use Rattle.masks.specs.promises.Mask.{test_bit}
+use Rattle.std.specs.Prelude.{ℕ, ◌≤◌, ◌<◌, ◌≡◌, true, List, map, get_or}
+use Rattle.limits.specs.Limits.{symbol_count}
 use Rattle.rebac.specs.Paths.{Graph}
-
--- the graph of a list of masks: that of (u, v) stands at 32u + v
-abbrev pub letters_graph : ℕ → List ℕ → Graph ℕ
-letters_graph n masks = record { parties = n; edge = λ u v s. test_bit (get_or masks (most_parties * u + v) 0) s }
 
 -- letter j is a class that holds from u to v: where it holds, all letters below `base` hold that do from u to v
 pub record Class (g : Graph ℕ) (base end u v j : ℕ) : Type 0 where

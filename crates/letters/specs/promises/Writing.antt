@@ -1,17 +1,18 @@
 -- What the functions that write a graph in letters ask of and promise each other. The pair (u, v) has number 32u + v.
-use Rattle.std.specs.Prelude.{ℕ, ◌-◌, ◌/◌, ◌%◌, ◌^◌, ◌≤◌, ◌<◌, ◌≡◌, Bool, true, false, ◌&&◌, List, eqb, ltb, get_or, length}
+use Rattle.std.specs.Prelude.{ℕ, ◌-◌, ◌/◌, ◌%◌, ◌≤◌, ◌<◌, ◌≡◌, Bool, true, ◌&&◌, List, eqb, ltb, get_or, length}
 use Rattle.std.specs.Int.Bits.{bit_or}
 use Rattle.lists.specs.Lists.{pick}
-use Rattle.limits.specs.Limits.{most_parties, symbol_count, mask_places, pair_numbers}
+use Rattle.limits.specs.Limits.{most_parties, symbol_count, pair_numbers}
 use Rattle.masks.specs.promises.Mask.{test_bit}
-use Rattle.masks.specs.promises.Table.{mask_at}
+use Rattle.masks.specs.promises.Table.{no_row, mask_in, mask_at}
+use Rattle.masks.specs.declared.Row.{Row}
 use Rattle.masks.specs.declared.Table.{Table}
 use Rattle.search.specs.promises.PairSearch.{table_graph}
-use Rattle.letters.specs.promises.Following.{Follows}
-use Rattle.letters.specs.promises.Letters.{letters_graph, Lettered, InClasses}
+use Rattle.letters.specs.promises.Letters.{Lettered, InClasses}
 use Rattle.letters.specs.declared.least.Least.{Least}
 use Rattle.letters.specs.declared.different.Classes.{Classes}
-use Rattle.letters.specs.declared.write.Letters.{Letters}
+use Rattle.letters.specs.declared.legend.Legend.{Legend}
+use Rattle.letters.specs.declared.written.Letters.{Letters}
 
 -- the mask of the pair with number k
 abbrev pub pair_mask : Table → ℕ → ℕ
@@ -21,10 +22,9 @@ pair_mask g k = mask_at g (k / most_parties) (k % most_parties)
 abbrev pub SameBelow : Table → ℕ → ℕ → ℕ → Type 0
 SameBelow g s r k = (i : ℕ) → i < k → test_bit (pair_mask g i) s ≡ test_bit (pair_mask g i) r
 
--- the mask, of 32 places, has every symbol that holds for a pair with a number below k
-pub record UsedBelow (g : Table) (mask k : ℕ) : Type 0 where
-  pub small : mask < 2 ^ mask_places
-  pub used : (i s : ℕ) → i < k → test_bit (pair_mask g i) s ≡ true → test_bit mask s ≡ true
+-- the mask has every symbol that holds for a pair with a number below k
+abbrev pub UsedBelow : Table → ℕ → ℕ → Type 0
+UsedBelow g k mask = (i s : ℕ) → i < k → test_bit (pair_mask g i) s ≡ true → test_bit mask s ≡ true
 
 -- the symbol at place i stands for s: it is no greater, and holds for the same pairs
 pub record StandsFor (g : Table) (symbols : List ℕ) (count s i : ℕ) : Type 0 where
@@ -46,17 +46,6 @@ pub record AllLeast (g : Table) (l : Least) : Type 0 where
   pub least : LeastOf g symbol_count l
   pub below : (k x : ℕ) → k < pair_numbers → test_bit (pair_mask g k) x ≡ true → x < symbol_count
 
--- what looking at symbol s needs
-pub record LeastQuery (g : Table) (mask : ℕ) (l : Least) (s : ℕ) : Type 0 where
-  pub symbol : s < symbol_count
-  pub used : UsedBelow g mask pair_numbers
-  pub least : LeastOf g s l
-
--- classes as code can hold them
-pub record Roomy (c : Classes) : Type 0 where
-  pub full : length c.masks ≡ symbol_count
-  pub fits : c.count ≤ symbol_count
-
 -- the mask is a class
 pub record Listed (c : Classes) (mask : ℕ) : Type 0 where
   pub place : ℕ
@@ -67,54 +56,44 @@ pub record Listed (c : Classes) (mask : ℕ) : Type 0 where
 abbrev pub Known : Classes → ℕ → Type 0
 Known c mask = (mask ≡ 0 → ⊥) → Listed c mask
 
--- the classes with one mask more, where there is room
+-- the classes with one mask more
 pub record ClassAdded (c : Classes) (mask : ℕ) (r : Classes) : Type 0 where
-  pub roomy : Roomy r
-  pub few : r.few ≡ true → c.few ≡ true
-  pub before : r.few ≡ true → (m : ℕ) → Listed c m → Listed r m
-  pub known : r.few ≡ true → Known r mask
+  pub before : (m : ℕ) → Listed c m → Listed r m
+  pub known : Known r mask
 
--- the masks of the pairs with a number below k are classes, where there was room
-pub record ClassesOf (g : Table) (k : ℕ) (c : Classes) : Type 0 where
-  pub roomy : Roomy c
-  pub known : c.few ≡ true → (i : ℕ) → i < k → Known c (pair_mask g i)
+-- the masks of the pairs with a number below k are classes
+abbrev pub ClassesOf : Table → ℕ → Classes → Type 0
+ClassesOf g k c = (i : ℕ) → i < k → Known c (pair_mask g i)
 
 -- whether letter i holds for a pair with this mask: a letter below `base` by its symbol, any other by its class
 unfoldable pub letter_on : List ℕ → ℕ → List ℕ → ℕ → ℕ → Bool
 letter_on symbols base classes mask i =
     pick (ltb i base) (test_bit mask (get_or symbols i 0)) (eqb (bit_or mask (get_or classes (i - base) 0)) mask)
 
--- the letters below `end` that hold for a pair with this mask
-abbrev pub LettersIn : List ℕ → ℕ → List ℕ → ℕ → ℕ → ℕ → Type 0
-LettersIn symbols base classes end mask r = (i : ℕ) → test_bit r i ≡ (ltb i end && letter_on symbols base classes mask i)
+-- the letters of the legend that hold for a pair with this mask
+abbrev pub LettersIn : Legend → ℕ → ℕ → Type 0
+LettersIn l mask r = (i : ℕ) → test_bit r i ≡ (ltb i l.end && letter_on l.symbols l.base l.classes mask i)
 
--- what writing in letters needs
-pub record LettersQuery (symbols : List ℕ) (base end : ℕ) : Type 0 where
-  pub order : base ≤ end
-  pub few : end ≤ symbol_count
-  pub below : (i : ℕ) → i < base → get_or symbols i 0 < symbol_count
+-- the first k masks of a row are written in letters
+abbrev pub RowWritten : Legend → Row → ℕ → Row → Type 0
+RowWritten l row k r = (v : ℕ) → v < k → LettersIn l (mask_in row v) (mask_in r v)
 
--- the masks of the pairs with a number below k are written in letters
-pub record WrittenBelow (g : Table) (symbols : List ℕ) (base : ℕ) (classes : List ℕ) (end k : ℕ) (masks : List ℕ) : Type 0 where
-  pub full : length masks ≡ pair_numbers
-  pub written : (i : ℕ) → i < k → LettersIn symbols base classes end (pair_mask g i) (get_or masks i 0)
+-- the first k rows of a graph are written in letters
+abbrev pub Written : Legend → Table → ℕ → Table → Type 0
+Written l g k r = (u : ℕ) → u < k → RowWritten l (get_or g.rows u no_row) most_parties (get_or r.rows u no_row)
 
--- letters as code can hold them, too many for a mask
-pub record NoLetters (r : Letters) : Type 0 where
-  pub many : r.few ≡ false
-  pub symbols : length r.symbols ≡ symbol_count
-  pub masks : length r.masks ≡ pair_numbers
+-- the graph in the legend's letters, of which words have those below b
+pub record InLetters (g : Table) (l : Legend) (b : ℕ) (r : Letters) : Type 0 where
+  pub base : r.base ≡ b
+  pub end : r.end ≡ l.end
+  pub symbols : r.symbols ≡ l.symbols
+  pub written : Written l g most_parties r.graph
 
--- the graph in letters, where they are few
-pub record LettersMade (g : Table) (r : Letters) : Type 0 where
-  pub symbols : length r.symbols ≡ symbol_count
-  pub masks : length r.masks ≡ pair_numbers
-  pub follow : r.few ≡ true → Follows r.masks r.follow
-  pub lettered : (n : ℕ) → n ≤ most_parties → r.few ≡ true
-      → Lettered (table_graph n g) (letters_graph n r.masks) r.symbols r.base r.end
+-- the graph in letters for symbols, and classes
+abbrev pub LettersMade : Table → Letters → Type 0
+LettersMade g r = (n : ℕ) → n ≤ most_parties → Lettered (table_graph n g) (table_graph n r.graph) r.symbols r.base r.end
 
--- the graph in classes alone, where they are few
+-- the graph in classes alone
 pub record ClassesMade (g : Table) (r : Letters) : Type 0 where
-  pub masks : length r.masks ≡ pair_numbers
-  pub follow : r.few ≡ true → Follows r.masks r.follow
-  pub in_classes : (n : ℕ) → n ≤ most_parties → r.few ≡ true → InClasses (table_graph n g) (letters_graph n r.masks) r.end
+  pub alone : r.base ≡ r.end
+  pub in_classes : (n : ℕ) → n ≤ most_parties → InClasses (table_graph n g) (table_graph n r.graph) r.end

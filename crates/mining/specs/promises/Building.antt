@@ -1,5 +1,5 @@
 -- A pair's term built in a lent slice, and what stops it: no word, or a rival.
-use Rattle.std.specs.Prelude.{ℕ, ◌+◌, ◌≤◌, ◌<◌, ◌≡◌, false, List, length}
+use Rattle.std.specs.Prelude.{ℕ, ◌+◌, ◌≤◌, ◌<◌, ◌≡◌, false, List, length, Result, Ok, Err}
 use Rattle.limits.specs.Limits.{word_capacity}
 use Rattle.masks.specs.promises.Mask.{test_bit}
 use Rattle.masks.specs.promises.Table.{mask_in}
@@ -18,8 +18,8 @@ use Rattle.search.specs.declared.word.Word.{Word as WordValue}
 use Rattle.rule_bytes.specs.ListBytes.{encode_term}
 use Rattle.fields.specs.promises.Writing.{put}
 use Rattle.rules.specs.promises.Meets.{meets_term}
-use Rattle.mining.specs.declared.build.Outcome.{Outcome}
-use Rattle.mining.specs.declared.build.Outcome.TheVariants.{NoWord, Rival, Term as TermTo}
+use Rattle.mining.specs.declared.build.Obstacle.{Obstacle}
+use Rattle.mining.specs.declared.build.Obstacle.TheVariants.{NoWord, Rival}
 use Rattle.mining.specs.Values.{pair_value}
 
 -- the conversion of an archive; it is its matter's (proofs/ArchiveLaws)
@@ -43,10 +43,10 @@ unfoldable pub term_bytes : Archive → Pair → List ℕ
 term_bytes a p = encoded_term (term_of (problem_in a) p)
 
 -- what comes of a pair, by its verdict: its term from place `at` on, and where that ends; or what is in the way
-abbrev pub OutcomeAs : Archive → Pair → ℕ → List ℕ → List ℕ → Verdict Pair → Outcome → Type 0
-OutcomeAs a p at old new convertible r = (r ≡ TermTo (at + length (term_bytes a p))) × (new ≡ put old at (term_bytes a p))
-OutcomeAs a p at old new (no_word x) r = r ≡ NoWord
-OutcomeAs a p at old new (rivalled x q) r = r ≡ Rival (pair_value q)
+abbrev pub OutcomeAs : Archive → Pair → ℕ → List ℕ → List ℕ → Verdict Pair → Result ℕ Obstacle → Type 0
+OutcomeAs a p at old new convertible r = (r ≡ Ok (at + length (term_bytes a p))) × (new ≡ put old at (term_bytes a p))
+OutcomeAs a p at old new (no_word x) r = r ≡ Err NoWord
+OutcomeAs a p at old new (rivalled x q) r = r ≡ Err (Rival (pair_value q))
 
 -- what seeking a first lacked word needs: two pairs of an archive that shows a matter
 pub record TwoPairs (a : Archive) (p q : Pair) : Type 0 where

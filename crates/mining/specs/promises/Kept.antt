@@ -1,5 +1,6 @@
 -- The first words of a pair, kept as the bytes of a term; and what seeking the first word that another pair lacks promises.
-use Rattle.std.specs.Prelude.{ℕ, ◌+◌, ◌*◌, ◌≤◌, ◌≡◌, true, false, ◌&&◌, List, [], ◌∷◌, length}
+use Rattle.std.specs.Prelude.{ℕ, ◌+◌, ◌*◌, ◌≤◌, ◌<◌, ◌≡◌, ◌&&◌, List, [], ◌∷◌, length, Result, Ok, Err}
+use Rattle.std.specs.Prelude.{Option as Maybe}
 use Rattle.std.proofs.Math.Option.{Option, some}
 use Rattle.lists.specs.Lists.{first_by}
 use Rattle.rebac.specs.Matter.{Matter, Pair, IsPair}
@@ -10,15 +11,13 @@ use Rattle.rebac.specs.NextWord.{pair_words, next_word}
 use Rattle.graph.specs.declared.Archive.{Archive}
 use Rattle.graph.specs.promises.Archive.{Shows}
 use Rattle.search.specs.Word.{symbols_in}
-use Rattle.search.specs.promises.WordValues.{Short}
 use Rattle.search.specs.declared.word.Word.{Word as WordValue}
-use Rattle.words.specs.declared.next.Next.{Next}
-use Rattle.words.specs.promises.Next.{NextAs}
+use Rattle.search.specs.declared.word.ShortWord.{ShortWord}
+use Rattle.words.specs.promises.Next.{WordAs}
 use Rattle.fields.specs.promises.Writing.{put}
 use Rattle.rule_bytes.specs.ListBytes.{encode_term}
 use Rattle.mining.specs.promises.Building.{TwoPairs}
 use Rattle.mining.specs.declared.kept.Kept.{Kept}
-use Rattle.mining.specs.declared.kept.Lacked.{Lacked}
 
 -- so many words are kept at most, and their bytes: a count, and a length byte and 31 symbols for each word
 abbrev pub most_kept : ℕ
@@ -37,18 +36,27 @@ abbrev pub last_of : Word → List Word → Word
 last_of from [] = from
 last_of from (w ∷ ws) = last_of w ws
 
--- these first words of the pair stand in the bytes
-pub record KeptAs (a : Archive) (p : Pair) (words : List Word) (k : Kept) (b : List ℕ) : Type 0 where
-  pub stands : put b 0 (encode_term words) ≡ b
+-- these first words of the pair are kept
+pub record KeptAs (a : Archive) (p : Pair) (words : List Word) (k : Kept) : Type 0 where
+  pub stands : put k.list 0 (encode_term words) ≡ k.list
   pub number : k.number ≡ length words
   pub ends : k.end ≡ length (encode_term words)
   pub few : k.number ≤ most_kept
   pub small : k.end ≤ 2 + 32 * k.number
-  pub size : length b ≡ kept_size
+  pub size : length k.list ≡ kept_size
   pub order : (M : Matter) → Shows M a → Follow M p [] words
 
-abbrev pub SomeKept : Archive → Pair → Kept → List ℕ → Type 0
-SomeKept a p k b = (words : List Word) × KeptAs a p words k b
+abbrev pub SomeKept : Archive → Pair → Kept → Type 0
+SomeKept a p k = (words : List Word) × KeptAs a p words k
+
+-- a word is the pair's next after the last of the words
+abbrev pub NextKept : Archive → Pair → List Word → WordValue → Type 0
+NextKept a p words w = (M : Matter) → Shows M a → next_word M p (last_of [] words) ≡ some (symbols_in w)
+
+-- what keeping a word needs: room for it
+pub record KeepQuery (k : Kept) : Type 0 where
+  pub more : k.number < most_kept
+  pub kept : (a : Archive) × ((p : Pair) × SomeKept a p k)
 
 -- the first word of p's that q lacks
 abbrev pub first_lacked : Matter → Pair → Pair → Option Word
@@ -61,33 +69,37 @@ HadTo M p q w = first_lacked M p q ≡ first_by (λ v. before w v && lacks (prob
 -- two pairs of an archive that shows a matter, and a word up to which the second has every word of the first
 pub record HadQuery (a : Archive) (p q : Pair) (w : WordValue) : Type 0 where
   pub pairs : TwoPairs a p q
-  pub short : Short w
   pub within : w.len ≤ a.longest
   pub had : (M : Matter) → Shows M a → HadTo M p q (symbols_in w)
 
 -- what seeking among the kept words needs, and what it promises: a kept word that q lacks is the first that it lacks;
 -- where it has all, the last one is handed out, or the empty word where none is kept
-pub record AmongQuery (a : Archive) (q : Pair) (k : Kept) (b : List ℕ) : Type 0 where
+pub record AmongQuery (a : Archive) (q : Pair) (k : Kept) : Type 0 where
   pub other : IsPair a.parties q
   pub shown : (M : Matter) × Shows M a
-  pub kept : (p : Pair) × SomeKept a p k b
+  pub kept : (p : Pair) × SomeKept a p k
 
-pub record AmongKept (a : Archive) (p q : Pair) (words : List Word) (r : Next) : Type 0 where
-  pub short : Short r.word
-  pub within : r.word.len ≤ a.longest
-  pub lacked : r.found ≡ true → (M : Matter) → Shows M a → NextAs (first_lacked M p q) r
-  pub last : r.found ≡ false → symbols_in r.word ≡ last_of [] words
-  pub had : r.found ≡ false → (M : Matter) → Shows M a → HadTo M p q (symbols_in r.word)
+pub record LackedKept (a : Archive) (p q : Pair) (w : WordValue) : Type 0 where
+  pub within : w.len ≤ a.longest
+  pub lacked : (M : Matter) → Shows M a → first_lacked M p q ≡ some (symbols_in w)
+
+pub record AllKept (a : Archive) (p q : Pair) (words : List Word) (w : WordValue) : Type 0 where
+  pub within : w.len ≤ a.longest
+  pub last : symbols_in w ≡ last_of [] words
+  pub had : (M : Matter) → Shows M a → HadTo M p q (symbols_in w)
+
+abbrev pub AmongKept : Archive → Pair → Pair → List Word → Result ShortWord ShortWord → Type 0
+AmongKept a p q words (Ok w) = LackedKept a p q w.word
+AmongKept a p q words (Err w) = AllKept a p q words w.word
 
 -- what seeking on from the last kept word needs: q has it and all before it
-pub record OnwardQuery (a : Archive) (p q : Pair) (k : Kept) (b : List ℕ) (w : WordValue) : Type 0 where
+pub record OnwardQuery (a : Archive) (p q : Pair) (k : Kept) (w : WordValue) : Type 0 where
   pub query : HadQuery a p q w
   pub words : List Word
-  pub kept : KeptAs a p words k b
+  pub kept : KeptAs a p words k
   pub last : symbols_in w ≡ last_of [] words
 
 -- what seeking a first lacked word promises: the word, where there is one, and the words kept then
-pub record LackedAs (a : Archive) (p q : Pair) (r : Lacked) (b : List ℕ) : Type 0 where
-  pub short : Short r.next.word
-  pub next : (M : Matter) → Shows M a → NextAs (first_lacked M p q) r.next
-  pub kept : SomeKept a p r.kept b
+pub record LackedAs (a : Archive) (p q : Pair) (r : Maybe ShortWord) (k : Kept) : Type 0 where
+  pub next : (M : Matter) → Shows M a → WordAs (first_lacked M p q) r
+  pub kept : SomeKept a p k

@@ -1,5 +1,5 @@
 -- One due pair in its turn: its outcome, and the pairs that the list permits then. What the verdict and mining do with each pair.
-use Rattle.std.specs.Prelude.{ℕ, ◌+◌, ◌≤◌, ◌<◌, ◌/◌, ◌%◌, ◌≡◌, Bool, true, not, ◌&&◌, List, [], ◌∷◌, ◌++◌, length}
+use Rattle.std.specs.Prelude.{ℕ, ◌+◌, ◌≤◌, ◌<◌, ◌/◌, ◌%◌, ◌≡◌, Bool, true, not, ◌&&◌, List, [], ◌∷◌, ◌++◌, length, Result, Ok, Err}
 use Rattle.limits.specs.Limits.{most_parties, pair_numbers}
 use Rattle.masks.specs.promises.Mask.{test_bit}
 use Rattle.masks.specs.promises.Table.{mask_in}
@@ -7,14 +7,15 @@ use Rattle.masks.specs.declared.Row.{Row}
 use Rattle.rebac.specs.Matter.{Matter, Pair, pair}
 use Rattle.rebac.specs.Words.{Word}
 use Rattle.rebac.specs.Rules.{RuleList, permits}
-use Rattle.rebac.specs.Verdict.{Verdict, convertible}
+use Rattle.rebac.specs.Verdict.{Verdict}
 use Rattle.rebac.specs.Mining.{term_of}
 use Rattle.graph.specs.declared.Archive.{Archive}
 use Rattle.graph.specs.promises.Archive.{Shows}
 use Rattle.graph.specs.Legal.{is_pair}
 use Rattle.mining.specs.promises.Pairs.{pair_at, is_pair_at}
 use Rattle.mining.specs.promises.Building.{problem_in, term_bytes, OutcomeAs}
-use Rattle.mining.specs.declared.take.PairTurn.{PairTurn}
+use Rattle.mining.specs.declared.build.Obstacle.{Obstacle}
+use Rattle.mining.specs.declared.take.Taken.{Taken}
 
 -- the row's bit (u, v) tells whether the list permits the pair; bits of no pair are clear
 abbrev pub PairMarks : Archive → RuleList Word → Row → Type 0
@@ -41,6 +42,7 @@ pub record DueQuery (a : Archive) (row : Row) (k at size : ℕ) : Type 0 where
   pub room : at + length (term_bytes a (pair_at k)) ≤ size
 
 -- what comes of the pair in its turn: its outcome, and where it has its term, the marks of the list with it
-pub record TurnAs (a : Archive) (r : RuleList Word) (k at : ℕ) (old new : List ℕ) (v : Verdict Pair) (t : PairTurn) : Type 0 where
-  pub outcome : OutcomeAs a (pair_at k) at old new v t.outcome
-  pub marks : v ≡ convertible → PairMarks a (r ++ (term_of (problem_in a) (pair_at k) ∷ [])) t.marks
+abbrev pub TurnAs : Archive → RuleList Word → ℕ → ℕ → List ℕ → List ℕ → Verdict Pair → Result Taken Obstacle → Type 0
+TurnAs a r k at old new v (Ok t) =
+    OutcomeAs a (pair_at k) at old new v (Ok t.end) × PairMarks a (r ++ (term_of (problem_in a) (pair_at k) ∷ [])) t.marks
+TurnAs a r k at old new v (Err e) = OutcomeAs a (pair_at k) at old new v (Err e)

@@ -1,8 +1,8 @@
 -- Room for the text, the list that it is made of, and a count of bytes at the start of a slice.
-use Rattle.std.specs.Prelude.{ℕ, ◌+◌, ◌*◌, ◌≤◌, ◌≡◌, List, length, take}
+use Rattle.std.specs.Prelude.{ℕ, ◌+◌, ◌*◌, ◌≤◌, ◌≡◌, List, length, take, Ok}
 use Rattle.graph.specs.FileMatter.{matter_of}
 use Rattle.conversion.specs.Calls.{bytes_of, verdict_call}
-use Rattle.conversion.specs.declared.verdict.VerdictReply.TheVariants.{Convertible}
+use Rattle.conversion.specs.declared.verdict.Verdict.TheVariants.{Convertible}
 use Rattle.report.specs.Report.{list_limit}
 
 -- a count of bytes at the start of a slice
@@ -19,7 +19,7 @@ text_room = 64 + list_room
 
 -- a convertible file whose list has k bytes, and the list at the start of a slice where it is printed
 pub record ListOf (f : List ℕ) (k : ℕ) (list : List ℕ) : Type 0 where
-  pub verdict : verdict_call f ≡ Convertible k
+  pub verdict : verdict_call f ≡ Ok (Convertible k)
   pub bytes : k ≤ list_limit → take k list ≡ bytes_of (matter_of f)
 
 -- what printing the list needs: the slice has it for some file, and room in a text of this size

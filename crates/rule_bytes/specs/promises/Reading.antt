@@ -1,24 +1,21 @@
 -- What the functions that read list bytes promise each other.
-use Rattle.std.specs.Prelude.{ℕ, ◌+◌, ◌≤◌, ◌<◌, ◌≡◌, length, take, drop, get_or}
+use Rattle.std.specs.Prelude.{ℕ, zero, suc, ◌+◌, ◌≤◌, ◌<◌, ◌≡◌, length, take, drop, get_or, Option, Some, None, MatchOption}
 use mathlib.Core.List.{List, ◌++◌, Memᴰ}
-use Rattle.std.proofs.Math.Option.{Option, none}
-use Rattle.limits.specs.Limits.{last_language, word_capacity, symbol_count}
+use Rattle.std.proofs.Math.Option.{Option as Decoded, none}
+use Rattle.limits.specs.Limits.{word_capacity, symbol_count}
 use Rattle.search.specs.promises.WordValues.{word_of}
 use Rattle.rule_bytes.specs.ListBytes.{encode_term, encode_list, Parsed, parsed}
-use Rattle.rule_bytes.specs.declared.check.Passed.{Passed}
-use Rattle.rule_bytes.specs.declared.check.Passed.TheVariants.{To, Broken}
 use Rattle.rule_bytes.specs.declared.read.WordRead.{WordRead}
 
--- what stands at a place is passed: to the place after it, or it breaks the layout
-abbrev pub Passes : {A : Type 0} → (List ℕ → Option (Parsed A)) → List ℕ → ℕ → Passed → Type 0
-Passes {A} f b at (To next) = (next ≤ length b) × ((v : A) × (f (drop at b) ≡ parsed v (drop next b)))
-Passes {A} f b at Broken = f (drop at b) ≡ none
+-- what stands at a place is passed: to the place after it, or none, as it breaks the layout
+abbrev pub Passes : {A : Type 0} → (List ℕ → Decoded (Parsed A)) → List ℕ → ℕ → Option ℕ → Type 0
+Passes {A} f b at (Some next) = (next ≤ length b) × ((v : A) × (f (drop at b) ≡ parsed v (drop next b)))
+Passes {A} f b at None = f (drop at b) ≡ none
 
--- a range of the bytes whose symbols may be checked, in a language that 01 has
-pub record SymbolRange (b : List ℕ) (from end language : ℕ) : Type 0 where
-  pub known : language ≤ last_language
-  pub order : from ≤ end
-  pub inside : end ≤ length b
+-- so many checks, each from the place where the one before ended, until one gives none
+abbrev pub PassesMany : (ℕ → Option ℕ → Type 0) → ℕ → ℕ → Option ℕ → Type 0
+PassesMany R zero at r = r ≡ Some at
+PassesMany R (suc n) at r = (o : Option ℕ) × R at o × MatchOption o (r ≡ None) (λ next. PassesMany R n next r)
 
 -- there is a length byte, and its symbols
 pub record WordFits (b : List ℕ) (at : ℕ) : Type 0 where

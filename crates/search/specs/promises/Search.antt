@@ -1,6 +1,6 @@
 -- The search over the enlarged graph as masks, from the first party on: the first symbols of a word are fixed, each later one is a floor.
-use Rattle.std.specs.Prelude.{◌≡◌, ℕ, zero, suc, ◌+◌, ◌-◌, ◌/◌, ◌^◌, ◌<◌, ◌≤◌, Bool}
-use Rattle.std.specs.Prelude.{true, false, not, List, [], ◌∷◌, length, drop, ◌==◌, nat_lt, slice_index}
+use Rattle.std.specs.Prelude.{◌≡◌, ℕ, zero, suc, ◌+◌, ◌-◌, ◌/◌, ◌^◌, ◌<◌, Bool}
+use Rattle.std.specs.Prelude.{true, false, not, List, [], ◌∷◌, length, drop, ◌==◌, nat_lt, slice_index, Result, MatchResult}
 use Rattle.std.proofs.Math.Option.{Option, none, some}
 use Rattle.limits.specs.Limits.{most_parties}
 use Rattle.masks.specs.promises.Mask.{test_bit, with_bit}
@@ -10,9 +10,9 @@ use Rattle.rebac.specs.Paths.{Graph}
 use Rattle.rebac.specs.promises.Forms.{Place, exactly, from}
 use Rattle.rebac.specs.promises.Marked.{least_marked}
 use Rattle.search.specs.Word.{symbols_in}
-use Rattle.search.specs.promises.WordValues.{Short}
 use Rattle.search.specs.declared.word.Word.{Word}
-use Rattle.search.specs.declared.search.Found.{Found}
+use Rattle.search.specs.declared.path.NoPath.{NoPath}
+use Rattle.search.specs.declared.path.Path.{Path}
 
 -- some symbol of the mask may stand at the place: tested by shift
 abbrev pub place_on : Place → ℕ → Bool
@@ -50,23 +50,12 @@ unfoldable pub visit_all : ℕ → List ℕ → ℕ
 visit_all visited [] = visited
 visit_all visited (c ∷ l) = visit_all (with_bit visited c) l
 
--- what a search from place `at` found: the parties passed are visited, and written from place at + 1 on
-abbrev pub FoundAs : ℕ → ℕ → Option (List ℕ) → Found → Type 0
-FoundAs at visited none r = r.found ≡ false
-FoundAs at visited (some l) r =
-    (r.found ≡ true) × ((r.visited ≡ visit_all visited l)
-    × ((length r.parties ≡ most_parties) × ((i : ℕ) → i < length l → slice_index r.parties (at + suc i) ≡ slice_index l i)))
+-- the parties `l`, passed after those of the mask before, are visited, and written from place at + 1 on
+pub record PathAs (at before : ℕ) (l : List ℕ) (p : Path) : Type 0 where
+  pub visited : p.visited ≡ visit_all before l
+  pub full : length p.parties ≡ most_parties
+  pub parties : (i : ℕ) → i < length l → slice_index p.parties (at + suc i) ≡ slice_index l i
 
--- what a search from party u at place `at` needs
-pub record PartyQuery (w : Word) (at n u target : ℕ) : Type 0 where
-  pub short : Short w
-  pub place : at < w.len
-  pub parties : n ≤ most_parties
-  pub start : u < n
-  pub end : target < n
-
--- what the last step needs: one place, and the party to which it leads
-pub record LastStepQuery (w : Word) (at target : ℕ) : Type 0 where
-  pub short : Short w
-  pub place : at < w.len
-  pub end : target < most_parties
+-- what a search from place `at` found, where a definition gives `o`
+abbrev pub FoundAs : ℕ → ℕ → Option (List ℕ) → Result Path NoPath → Type 0
+FoundAs at visited o r = MatchResult r (λ p. (l : List ℕ) × ((o ≡ some l) × PathAs at visited l p)) (λ _. o ≡ none)

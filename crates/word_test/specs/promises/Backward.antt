@@ -1,15 +1,15 @@
 -- The search back over the enlarged graph as masks.
-use Rattle.std.specs.Prelude.{◌≡◌, ℕ, zero, suc, ◌+◌, ◌<◌, ◌≤◌, min, max, Bool, not, ◌&&◌, List, [], ◌∷◌, nat_lt, slice_index}
-use Rattle.limits.specs.Limits.{most_parties, word_capacity}
+use Rattle.std.specs.Prelude.{◌≡◌, ℕ, zero, suc, ◌+◌, ◌-◌, ◌<◌, ◌≤◌, min, max, Bool, not, ◌&&◌, List, [], ◌∷◌, nat_lt, slice_index}
+use Rattle.limits.specs.Limits.{word_capacity}
 use Rattle.masks.specs.promises.Mask.{test_bit, with_bit}
 use Rattle.masks.specs.promises.Table.{mask_in, mask_at}
 use Rattle.masks.specs.declared.Row.{Row}
 use Rattle.masks.specs.declared.Table.{Table}
 use Rattle.rebac.specs.promises.Backward.{count_back, way_back, depth_back}
-use Rattle.search.specs.promises.WordValues.{Short}
 use Rattle.search.specs.promises.PairSearch.{table_graph}
 use Rattle.search.specs.declared.word.Word.{Word}
 use Rattle.word_test.specs.declared.back.Back.{Back}
+use Rattle.word_test.specs.declared.back.SearchBack.{SearchBack}
 
 -- k symbols of the word from place `from` on, the last one first
 unfoldable pub symbols_back : Word → ℕ → ℕ → List ℕ
@@ -46,19 +46,17 @@ pub record Seconds (n : ℕ) (t : Table) (w : Word) (starts deep : ℕ) (row : R
 abbrev pub may_stand : Table → Word → ℕ → ℕ → ℕ → ℕ → Bool
 may_stand t w visited u at c = not (test_bit visited c) && test_bit (mask_at t c u) (slice_index w.symbols at)
 
--- what a search back from party u along the places from `at` down needs
-pub record BackQuery (w : Word) (cap at n u starts : ℕ) (row : Row) (deep : ℕ) (t : Table) : Type 0 where
-  pub short : Short w
+-- what a search back from party u along the places from `at` down needs, with its candidates as a mask
+pub record CandidateQuery (s : SearchBack) (cap at u mask visited deep : ℕ) : Type 0 where
   pub some : 1 ≤ cap
-  pub two : 2 ≤ at
-  pub place : at < w.len
-  pub parties : n ≤ most_parties
-  pub party : u < n
-  pub seconds : Seconds n t w starts deep row
-  pub fits : deep ≤ word_capacity
-
--- and with its candidates as a mask
-pub record CandidateQuery (w : Word) (cap at n u mask visited starts : ℕ) (row : Row) (deep : ℕ) (t : Table) : Type 0 where
-  pub query : BackQuery w cap at n u starts row deep t
   pub three : 3 ≤ at
-  pub candidates : (c : ℕ) → test_bit mask c ≡ (nat_lt c n && may_stand t w visited u at c)
+  pub place : at < s.word.word.len
+  pub fits : deep ≤ word_capacity
+  pub candidates : (c : ℕ) → test_bit mask c ≡ (nat_lt c s.graph.parties && may_stand s.graph.table s.word.word visited u at c)
+  pub seconds : Seconds s.graph.parties s.graph.table s.word.word s.starts deep s.seconds
+
+-- what it found
+abbrev pub FoundBack : SearchBack → ℕ → ℕ → ℕ → ℕ → ℕ → Back → Type 0
+FoundBack s cap at u visited deep r =
+    BackAs cap (ways_from s.graph.parties s.graph.table s.starts visited u (symbols_back s.word.word 1 at)) deep
+    (s.word.word.len - (at + 1) + depth_from s.graph.parties s.graph.table visited u (symbols_back s.word.word 1 at)) r

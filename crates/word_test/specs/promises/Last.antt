@@ -1,6 +1,5 @@
 -- The last steps of a search back, over masks alone.
-use Rattle.std.specs.Prelude.{ℕ, suc, ◌+◌, ◌-◌, ◌≤◌, not, ◌==◌, bit_and, count_ones}
-use Rattle.limits.specs.Limits.{most_parties, word_capacity}
+use Rattle.std.specs.Prelude.{ℕ, suc, ◌+◌, ◌-◌, not, ◌==◌, bit_and, count_ones}
 use Rattle.lists.specs.Lists.{range}
 use Rattle.lists.specs.Order.{only_if, sum_of, greatest_of}
 use Rattle.masks.specs.promises.Mask.{test_bit, with_bit}
@@ -28,11 +27,3 @@ module _ (mask : ℕ) (row : Row) (visited starts : ℕ) where
 
   abbrev pub LastThree : ℕ → ℕ → ℕ → ℕ → Back → Type 0
   LastThree cap n len deep r = BackAs cap (sum_of two_ways (range n)) deep (len - 3 + greatest_of two_far (range n)) r
-
--- what they need
-pub record LastQuery (cap n len deep : ℕ) : Type 0 where
-  pub some : 1 ≤ cap
-  pub parties : n ≤ most_parties
-  pub three : 3 ≤ len
-  pub short : len ≤ word_capacity
-  pub fits : deep ≤ word_capacity

@@ -1,13 +1,13 @@
 -- Masks of parties outside of which no way leads back.
 use Rattle.std.specs.Prelude.{◌≡◌, ℕ, ◌+◌, ◌-◌, ◌<◌, ◌≤◌, true, false}
-use Rattle.limits.specs.Limits.{most_parties, word_capacity}
+use Rattle.limits.specs.Limits.{word_capacity}
 use Rattle.masks.specs.promises.Mask.{test_bit, with_bit}
 use Rattle.masks.specs.promises.Table.{mask_at}
 use Rattle.masks.specs.declared.Table.{Table}
-use Rattle.search.specs.promises.WordValues.{Short}
 use Rattle.search.specs.promises.Walk.{Within}
 use Rattle.search.specs.declared.word.Word.{Word}
 use Rattle.word_test.specs.promises.Backward.{symbols_back, way_from, ways_from, depth_from}
+use Rattle.word_test.specs.declared.back.SearchBack.{SearchBack}
 
 -- a party below n that is not visited and to which the symbol leads from one of the mask below k
 abbrev pub Onward : ℕ → Table → ℕ → ℕ → ℕ → ℕ → ℕ → Type 0
@@ -22,13 +22,6 @@ Covers n t w starts from k visited mask =
     (v : ℕ) → v < n → test_bit mask v ≡ false → (more : ℕ) → Within visited more → test_bit more v ≡ false
     → way_from n t starts (with_bit more v) v (symbols_back w from k) ≡ false
 
--- what walks from before place `from` to before place `to` need
-pub record WalkQuery (w : Word) (n from to : ℕ) : Type 0 where
-  pub short : Short w
-  pub places : from ≤ to
-  pub place : to ≤ w.len
-  pub parties : n ≤ most_parties
-
 -- a party that is no candidate of the mask and not visited: no way leads from it to a start, and none leads further than `deep`
 pub record Skipped (n : ℕ) (t : Table) (w : Word) (at visited starts deep v : ℕ) : Type 0 where
   pub lost : ways_from n t starts (with_bit visited v) v (symbols_back w 1 (at - 1)) ≡ 0
@@ -39,9 +32,7 @@ Look n t w at visited starts deep mask =
     (v : ℕ) → v < n → test_bit mask v ≡ false → test_bit visited v ≡ false → Skipped n t w at visited starts deep v
 
 -- what a look at walks needs
-pub record LookQuery (w : Word) (at n deep : ℕ) : Type 0 where
-  pub short : Short w
+pub record LookQuery (s : SearchBack) (at deep : ℕ) : Type 0 where
   pub some : 1 ≤ at
-  pub place : at < w.len
-  pub parties : n ≤ most_parties
+  pub place : at < s.word.word.len
   pub fits : deep ≤ word_capacity

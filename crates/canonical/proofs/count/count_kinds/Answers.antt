@@ -8,7 +8,7 @@ use Rattle.canonical.proofs.count.count_kinds.Goals as goal
 use Rattle.canonical.proofs.count.count_kinds.Goals.{then-says_at, else-says_at}
 
 pub loop-place-init : goal.loop-place-init
-loop-place-init c = record { inside = omega arith; bounded = omega arith; counted = sym (ap length (kinds_none _ _)) }
+loop-place-init c = record { bounded = omega arith; counted = sym (ap length (kinds_none _ _)) }
 
 pub loop-place-preserved : goal.loop-place-preserved
 loop-place-preserved c =
@@ -17,13 +17,13 @@ loop-place-preserved c =
     let e = c.says_at.ensures in
     elim c.if-says_at.branch [
       | then-says_at w ↦
-          let m = kinds_more a.labels a.mask l.place c.loop-place-test.true (sym e ∙ w.if-says_at.true) in
+          let m = kinds_more a.labels a.mask l.place (omega arith) (sym e ∙ w.if-says_at.true) in
           let n = length-append (kinds_to a.labels a.mask l.place) (get_or (kind_bytes a.labels) l.place 0 ∷ []) in
-          record { inside = omega arith; bounded = omega (arith, w.count-is); counted = omega (arith, w.count-is, ap length m, n) }
+          record { bounded = omega (arith, w.count-is); counted = omega (arith, w.count-is, ap length m, n) }
       | else-says_at w ↦
-          let m = kinds_same a.labels a.mask l.place c.loop-place-test.true (sym e ∙ w.if-says_at.false) in
-          record { inside = omega arith; bounded = omega (arith, w.count-is); counted = omega (arith, w.count-is, ap length m) }
+          let m = kinds_same a.labels a.mask l.place (omega arith) (sym e ∙ w.if-says_at.false) in
+          record { bounded = omega (arith, w.count-is); counted = omega (arith, w.count-is, ap length m) }
     ]
 
 pub returns : goal.returns
-returns c = c.loop-place.invariant.counted ∙ ap length (kinds_all c.args.labels c.args.mask c.loop-place.place c.loop-place-test.false)
+returns c = c.loop-place.invariant.counted ∙ ap length (kinds_all c.args.labels c.args.mask c.loop-place.place (omega arith))

@@ -12,12 +12,12 @@ use Rattle.canonical.proofs.count.first_numbers.Goals as goal
 bounded : (c : goal.After-count_party-number) → c.loop-u.number + c.count_party-number.result ≤ 9217
 bounded c =
     let l = c.loop-u in
-    let M = matter_in c.args.h c.args.kinds in
+    let M = matter_in c.args.h c.args.kinds.now in
     let most = first_most M (suc l.u) (omega arith) in
     omega (arith, l.invariant.numbered.last, c.count_party-number.ensures, first_step M l.u, most, count_bounded M c.requires.0 c.requires.1)
 
 pub loop-u-init : goal.loop-u-init
-loop-u-init c = record { inside = omega arith; places = refl; numbered = numbered_zero _ _ }
+loop-u-init c = record { places = refl; numbered = numbered_zero _ _ }
 
 pub overflow_add-number : goal.overflow_add-number
 overflow_add-number c = omega (arith, bounded c)
@@ -27,7 +27,6 @@ loop-u-preserved c =
     let l = c.loop-u in
     let n = c.count_party-number in
     record {
-      inside = omega arith;
       places = length-set l.numbers _ _ ∙ l.invariant.places;
       numbered = numbered_step _ l.numbers l.number l.u n.result (omega arith) n.ensures l.invariant.numbered;
     }

@@ -1,8 +1,8 @@
 -- Invariant: the numbers of the first records are stored for the parties up to u, and `number` is the last of them.
--- Measure: the parties left.
+--
 use mathlib.Core.Path.{◌≡◌}
 use mathlib.Core.List.{List}
-use Prim.Native.Nat.{ℕ, ◌-◌, ◌≤◌}
+use Prim.Native.Nat.{ℕ}
 use lib.ListN.{length}
 use Rattle.masks.specs.declared.Table.{Table}
 use Rattle.house_layout.specs.declared.header.Header.{Header}
@@ -11,12 +11,8 @@ use Rattle.canonical.proofs.CountLaws.{Numbered}
 use Rattle.canonical.proofs.count.first_numbers.Given as goal
 
 pub record NumberedTo (h : Header) (kinds : Table) (numbers : List ℕ) (number u : ℕ) : Type 0 where
-  pub inside : u ≤ h.parties
   pub places : length numbers ≡ 33
   pub numbered : Numbered (matter_in h kinds) numbers number u
 
 abbrev pub invariant-loop-u : goal.invariant-loop-u
 invariant-loop-u l = NumberedTo l.h l.kinds l.numbers l.number l.u
-
-abbrev pub decreases-loop-u : goal.decreases-loop-u
-decreases-loop-u l = l.h.parties - l.u

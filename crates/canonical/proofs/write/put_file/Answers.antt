@@ -11,7 +11,7 @@ use Rattle.canonical.proofs.write.put_file.Goals as goal
 pub put_header-requires : goal.put_header-requires
 put_header-requires c =
     let p = c.requires in
-    let n = count_bounded (matter_in c.args.h c.args.kinds) p.parties p.labels in
+    let n = count_bounded (matter_in c.args.h c.args.kinds.now) p.parties p.labels in
     record {
       edition = omega (arith, p.edition);
       parties = omega arith;
@@ -24,7 +24,7 @@ put_header-requires c =
 
 pub put_heads-requires : goal.put_heads-requires
 put_heads-requires c =
-    let M = matter_in c.args.h c.args.kinds in
+    let M = matter_in c.args.h c.args.kinds.now in
     let n = count_bounded M c.requires.parties c.requires.labels in
     record {
       bounded = c.requires.parties;
@@ -37,7 +37,7 @@ unfolding records_to
 returns c =
     let p = c.requires in
     let a = c.args in
-    let M = matter_in a.h a.kinds in
+    let M = matter_in a.h a.kinds.now in
     let e = p.edition in
     let n = p.records in
     let q : header_for written_edition M ≡ a.h =

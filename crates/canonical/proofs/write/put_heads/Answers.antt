@@ -8,7 +8,7 @@ use Rattle.canonical.proofs.WriteLaws.{heads_none, heads_put}
 use Rattle.canonical.proofs.write.put_heads.Goals as goal
 
 pub loop-u-init : goal.loop-u-init
-loop-u-init c = record { inside = omega arith; size = refl; bytes = rw heads_none (sym (put_nil _ _)) }
+loop-u-init c = record { size = refl; bytes = rw heads_none (sym (put_nil _ _)) }
 
 pub put_u16-requires : goal.put_u16-requires
 put_u16-requires c =
@@ -24,13 +24,9 @@ loop-u-preserved c =
     let p = heads_put first a.out.now l.out l.u k.result (omega arith) k.ensures.0 l.invariant.bytes in
     let o = c.put_u16.ensures ∙ p in
     record {
-      inside = omega arith;
       size = put_kept a.out.now _ 8 _ o (omega (arith, heads_size first (l.u + 1)));
       bytes = o;
     }
-
-pub shape_of-out : goal.shape_of-out
-shape_of-out c = c.loop-u.invariant.size
 
 pub returns : goal.returns
 returns c =

@@ -1,65 +1,28 @@
-use mathlib.Core.Path.{◌≡◌, refl, sym, ap, ◌∙◌}
+use mathlib.Core.Path.{refl, sym, ap, ◌∙◌}
 use mathlib.Core.List.{[], ◌∷◌, ◌++◌}
 use Prim.Native.Nat.{ℕ, ◌+◌, ◌-◌, ◌*◌, ◌≤◌}
 use native.Mathlib.Omega.{arith}
 use lib.ListN.{length, get_or, length-append}
 use Rattle.fields.proofs.PutLaws.{put_nil, put_kept}
-use Rattle.house_layout.specs.declared.record.OwnerByte.TheVariants.{Party}
 use Rattle.canonical.specs.Canonical.{kind_bytes}
-use Rattle.canonical.proofs.CountLaws.{kinds_to, kinds_none, kinds_all, kinds_more, kinds_same, kinds_most, kinds_room}
+use Rattle.canonical.proofs.CountLaws.{kinds_to, kinds_none, kinds_all, kinds_more, kinds_same, kinds_most}
 use Rattle.canonical.proofs.WriteLaws.{pair_none, pair_length, pair_put}
-use borrow.Author.Rules.{rules}
 use Rattle.canonical.proofs.write.put_pair.Goals as goal
 use Rattle.canonical.proofs.write.put_pair.Goals.{then-says_at, else-says_at}
 
 pub loop-place-init : goal.loop-place-init
 loop-place-init c = record {
-  inside = omega arith;
   size = refl;
   count = rw kinds_none (omega arith);
   bytes = rw (kinds_none, pair_none) (sym (put_nil _ _));
 }
-
-pub overflow_add-next : goal.overflow_add-next
-overflow_add-next c =
-    let r = kinds_room c.args.labels c.args.mask c.loop-place.place (omega arith) (sym c.says_at.ensures ∙ c.if-says_at.true) in
-    omega (arith, r)
-
-pub overflow_mul-next : goal.overflow_mul-next
-overflow_mul-next c =
-    let r = kinds_room c.args.labels c.args.mask c.loop-place.place (omega arith) (sym c.says_at.ensures ∙ c.if-says_at.true) in
-    omega (arith, r)
-
-pub overflow_add-base : goal.overflow_add-base
-overflow_add-base c =
-    let r = kinds_room c.args.labels c.args.mask c.loop-place.place (omega arith) (sym c.says_at.ensures ∙ c.if-says_at.true) in
-    omega (arith, r)
-
-pub put_record-requires : goal.put_record-requires
-put_record-requires c =
-    let a = c.args in
-    let r = kinds_room a.labels a.mask c.loop-place.place (omega arith) (sym c.says_at.ensures ∙ c.if-says_at.true) in
-    let same : (u : ℕ) → Party a.owner ≡ Party u → a.owner ≡ u = λ u q. cc in
-    record {
-      target = search rules;
-      kind = search rules;
-      next = omega (arith, r);
-      owner = λ u q. omega (arith, same u q);
-      room =
-          omega (arith, r);
-    }
-
-pub overflow_add-next-then-says_at : goal.overflow_add-next-then-says_at
-overflow_add-next-then-says_at c =
-    let r = kinds_room c.args.labels c.args.mask c.loop-place.place (omega arith) (sym c.says_at.ensures ∙ c.if-says_at.true) in
-    omega (arith, r)
 
 pub loop-place-preserved : goal.loop-place-preserved
 loop-place-preserved c =
     let l = c.loop-place in
     let a = c.args in
     let e = c.says_at.ensures in
-    let t : l.place ≤ a.labels = omega (arith, c.loop-place-test.true) in
+    let t : l.place ≤ a.labels = omega arith in
     let i = l.invariant in
     let ks = kinds_to a.labels a.mask l.place in
     let more = kinds_to a.labels a.mask (l.place + 1) in
@@ -70,16 +33,15 @@ loop-place-preserved c =
           let f = kinds_most a.labels a.mask (l.place + 1) in
           let k = m ∙ ap (λ (k : ℕ). ks ++ (k ∷ [])) (sym w.kind_at.ensures.0) in
           let p =
-          pair_put a.end a.out.now l.out a.base a.number a.owner a.target l.next ks more w.kind_at.result w.link_to.result
+          pair_put a.chain.end a.out.now l.out a.chain.base a.number a.chain.owner a.target l.next ks more w.kind_at.result w.link_to.result
           (omega arith) (omega arith) i.count k w.link_to.ensures.0 i.bytes in
           let o = w.out-is ∙ w.put_record.ensures ∙ p in
-          let g = pair_length a.end a.number a.owner a.target more in
-          let s = put_kept a.out.now c.if-says_at.out (a.base + 5 * (a.number - 1)) _ o (omega (arith, f, g)) in
-          record { inside = omega arith; size = s; count = omega (arith, w.next-is, n); bytes = o }
+          let g = pair_length a.chain.end a.number a.chain.owner a.target more in
+          let s = put_kept a.out.now c.if-says_at.out (a.chain.base + 5 * (a.number - 1)) _ o (omega (arith, f, g)) in
+          record { size = s; count = omega (arith, w.next-is, n); bytes = o }
       | else-says_at w ↦
           let m = kinds_same a.labels a.mask l.place t (sym e ∙ w.if-says_at.false) in
           record {
-            inside = omega arith;
             size = ap length w.out-is ∙ i.size;
             count = rw m (w.next-is ∙ i.count);
             bytes =

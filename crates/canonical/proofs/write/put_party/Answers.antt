@@ -11,7 +11,6 @@ use Rattle.canonical.proofs.write.put_party.Goals as goal
 
 pub loop-v-init : goal.loop-v-init
 loop-v-init c = record {
-  inside = omega arith;
   size = refl;
   count = rw row_none (omega arith);
   bytes = rw (row_none, chain_none) (sym (put_nil _ _));
@@ -20,8 +19,8 @@ loop-v-init c = record {
 pub put_pair-next-requires : goal.put_pair-next-requires
 put_pair-next-requires c =
     let a = c.args in
-    let n = row_step a.h.labels (get_or a.kinds.rows a.u no_row) a.u c.loop-v.v in
-    let r = row_room a.h a.kinds a.u c.loop-v.v (omega arith) in
+    let n = row_step a.h.labels (get_or a.kinds.now.rows a.u no_row) a.u c.loop-v.v in
+    let r = row_room a.h a.kinds.now a.u c.loop-v.v (omega arith) in
     record {
       parties = (omega arith, omega arith);
       bounded = omega arith;
@@ -35,7 +34,7 @@ pub loop-v-preserved : goal.loop-v-preserved
 loop-v-preserved c =
     let l = c.loop-v in
     let a = c.args in
-    let w = get_or a.kinds.rows a.u no_row in
+    let w = get_or a.kinds.now.rows a.u no_row in
     let e = c.put_pair-next.ensures in
     let base = 8 + 2 * a.h.parties in
     let es = row_to a.h.labels w a.u l.v in
@@ -46,21 +45,17 @@ loop-v-preserved c =
     party_put a.end a.out.now l.out base a.number a.u l.v l.next es more ks
     (omega arith) (omega arith) l.invariant.count m l.invariant.bytes in
     let o = e.1 ∙ p in
-    let r = row_room a.h a.kinds a.u l.v (omega arith) in
+    let r = row_room a.h a.kinds.now a.u l.v (omega arith) in
     let s = put_kept a.out.now _ (base + 5 * (a.number - 1)) _ o (omega (arith, r, chain_length a.end a.number more)) in
     record {
-      inside = omega arith;
       size = s;
       count = omega (arith, e.0, row_step a.h.labels w a.u l.v);
       bytes = o;
     }
-
-pub shape_of-out : goal.shape_of-out
-shape_of-out c = c.loop-v.invariant.size
 
 pub returns : goal.returns
 returns c =
     let l = c.loop-v in
     let a = c.args in
     let e : l.v ≡ a.h.parties = omega arith in
-    rw (e, row_all a.h a.kinds a.u) at l.invariant.bytes
+    rw (e, row_all a.h a.kinds.now a.u) at l.invariant.bytes

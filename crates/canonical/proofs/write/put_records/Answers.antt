@@ -11,12 +11,12 @@ use Rattle.canonical.proofs.WriteLaws.{records_to, records_none, records_length,
 use Rattle.canonical.proofs.write.put_records.Goals as goal
 
 pub loop-u-init : goal.loop-u-init
-loop-u-init c = record { inside = omega arith; size = refl; bytes = rw records_none (sym (put_nil _ _)) }
+loop-u-init c = record { size = refl; bytes = rw records_none (sym (put_nil _ _)) }
 
 pub put_party-requires : goal.put_party-requires
 put_party-requires c =
     let l = c.loop-u in
-    let M = matter_in c.args.h c.args.kinds in
+    let M = matter_in c.args.h c.args.kinds.now in
     let F = c.requires.firsts in
     let p = F l.u (omega arith) in
     let q = F (l.u + 1) (omega arith) in
@@ -34,7 +34,7 @@ put_party-requires c =
 pub loop-u-preserved : goal.loop-u-preserved
 loop-u-preserved c =
     let l = c.loop-u in
-    let M = matter_in c.args.h c.args.kinds in
+    let M = matter_in c.args.h c.args.kinds.now in
     let first = c.requires.firsts l.u (omega arith) in
     let end = c.requires.firsts (l.u + 1) (omega arith) in
     let base = 8 + 2 * c.args.h.parties in
@@ -42,13 +42,9 @@ loop-u-preserved c =
     let o = c.put_party.ensures ∙ p in
     let most = first_most M (l.u + 1) (omega arith) in
     record {
-      inside = omega arith;
       size = put_kept c.args.out.now _ base _ o (omega (arith, records_length M (l.u + 1), most));
       bytes = o;
     }
-
-pub shape_of-out : goal.shape_of-out
-shape_of-out c = c.loop-u.invariant.size
 
 pub returns : goal.returns
 unfolding records_to

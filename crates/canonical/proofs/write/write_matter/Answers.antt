@@ -1,4 +1,5 @@
 -- The size is the file's, by the number past the last record; the test decides the answer.
+use Rattle.std.specs.Prelude.{Ok}
 use mathlib.Core.Path.{refl, sym, ap, ◌∙◌}
 use native.Mathlib.Omega.{arith}
 use lib.ListN.{length}
@@ -6,7 +7,6 @@ use Rattle.fields.specs.promises.Writing.{put}
 use Rattle.house_layout.specs.Layout.{record_size}
 use Rattle.canonical.specs.Canonical.{canonical_of, written_edition}
 use Rattle.canonical.specs.promises.Masks.{matter_in}
-use Rattle.canonical.specs.declared.reply.FileReply.TheVariants.{Wrote}
 use Rattle.fields.proofs.PutLaws.{put_first}
 use Rattle.canonical.proofs.EntryLaws.{count_bounded}
 use Rattle.canonical.proofs.StandsLaws.{stands_canonical, stands_size, past_last, short_in, fits_in}
@@ -42,4 +42,4 @@ returns c =
     let e = fits_in (canonical_of written_edition M) (length a.out.now) (omega (arith, c.if-out-size.false)) in
     let s = stands_canonical written_edition M a.h a.kinds S in
     let o = c.put_file.ensures ∙ ap (put a.out.now 0) s ∙ put_first a.out.now (canonical_of written_edition M) in
-    rw e (ap Wrote (sym n), o)
+    rw e (ap Ok (sym n), o)

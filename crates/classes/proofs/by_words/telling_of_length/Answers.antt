@@ -1,49 +1,18 @@
 -- Where no word of as many classes tells, none of symbols does (ClassLaws); else the words one after another.
-use borrow.Author.Tests.{not-true}
-use native.Mathlib.Omega.{arith}
-use Rattle.rebac.specs.Matter.{pair}
-use Rattle.search.specs.promises.PairSearch.{table_graph}
-use Rattle.words.proofs.NextLaws.{next_not}
-use Rattle.letters.specs.promises.Letters.{letters_graph, InClasses}
+use Rattle.search.specs.promises.PairSearch.{graph_of, table_graph}
+use Rattle.words.proofs.NextLaws.{word_not}
+use Rattle.letters.specs.promises.Writing.{ClassesMade}
+use Rattle.classes.specs.promises.Prefixes.{own_pair, other_pair}
 use Rattle.classes.proofs.ClassLaws.{length_none}
 use Rattle.classes.proofs.by_words.telling_of_length.Goals as goal
-use Rattle.classes.proofs.by_words.telling_of_length.Goals.{Then-l}
 
--- the graph is written in classes where they are few
-in_classes_lem : (c : Then-l) →
-    let a = c.before.args in
-    InClasses (table_graph a.n a.g) (letters_graph a.n a.l.masks) a.l.end
-in_classes_lem c =
-    let x = c.before in
-    x.requires.0.in_classes x.args.n x.requires.1.parties c.if-l.true
-
-pub first_telling-c-requires : goal.first_telling-c-requires
-first_telling-c-requires c =
-    let p = c.before.before.before.requires in
-    let w = p.1 in
-    record {
-      full = p.0.masks;
-      follow = p.0.follow c.before.before.if-l.true;
-      parties = w.parties;
-      is_pair = w.is_pair;
-      other = w.other;
-      long = w.long;
-      order = omega arith;
-      few = (in_classes_lem c.before.before.before).few;
-      classed = λ h. absurd (omega arith);
-    }
-
-pub returns-then-not-c : goal.returns-then-not-c
-returns-then-not-c c =
-    let x = c.before.before.before.before.before.before in
-    let a = x.args in
-    let found = c.before.before.first_telling-c in
-    let k = in_classes_lem c.before.before.before.before.before.before in
-    let no = not-true _ c.if-not-c.true in
-    let none = next_not _ found.result found.ensures.1 no in
-    let w = x.requires.1 in (
-      found.ensures.0,
-      λ al A.
-          rw (length_none (table_graph a.n a.g) (letters_graph a.n a.l.masks) a.l.end k (pair a.first a.second)
-          (pair a.u a.v) w.is_pair.first w.other.first al a.len none) no,
-    )
+pub returns-then-is_none : goal.returns-then-is_none
+returns-then-is_none c al A =
+    let q = c.args.q.now in
+    let l = c.in-Some.l.now in
+    let k : ClassesMade q.graph.table l = rw c.in-Some.is at c.requires.classes in
+    let over = c.new-classes.ensures in
+    let found = rw (over.parties, over.table, over.first, over.second, over.u, over.v, over.base, k.alone) at c.first_telling.ensures in
+    let none = word_not _ c.first_telling.result found c.if-is_none.ensures in
+    length_none (graph_of q.graph) (table_graph q.graph.parties l.graph) l.end (k.in_classes q.graph.parties q.graph.within)
+    (own_pair q) (other_pair q) q.is_pair.first q.other.first al c.args.len none

@@ -1,25 +1,21 @@
 -- The file's refusals come first, and keep scratch; an accepted file's archive stands for its matter.
 use mathlib.Core.Path.{refl, sym}
-use Rattle.graph.proofs.CallLaws.{load_check, load_shows}
+use Rattle.house_layout.proofs.Exits.{left_with}
 use Rattle.conversion.specs.Calls.{mining_call}
 use Rattle.conversion.proofs.AnswerLaws.{file_keeps}
 use Rattle.conversion.proofs.mine.mining_call.Goals as goal
 
+pub returns-in_err-a : goal.returns-in_err-a
+unfolding mining_call
+returns-in_err-a c =
+    let e = c.in_err-a.ensures in
+    rw e (left_with c.from_residual.result c.from_residual.ensures.1, (sym (file_keeps _ _ e _), refl))
+
 pub mine_in-requires : goal.mine_in-requires
-mine_in-requires c =
-    let t = c.before.before.before in
-    (_, load_shows t.load-r.ensures t.in-Accepted.is)
+mine_in-requires c = (_, c.in_ok-a.ensures.1)
 
-pub returns-in-Refused : goal.returns-in-Refused
+pub returns : goal.returns
 unfolding mining_call
-returns-in-Refused c =
-    let e = load_check c.load-r.ensures c.in-Refused.is in
-    rw e (refl, (sym (file_keeps _ _ e _), refl))
-
-pub returns-in-Accepted : goal.returns-in-Accepted
-unfolding mining_call
-returns-in-Accepted c =
-    let t = c.before.before.before.before.before.before.before.before in
-    let l = t.load-r.ensures in
-    let e = t.in-Accepted.is in
-    rw (load_check l e) (c.mine_in.ensures _ (load_shows l e))
+returns c =
+    let loaded = c.in_ok-a.ensures in
+    rw loaded.0 (c.mine_in.ensures _ loaded.1)

@@ -1,26 +1,16 @@
-use mathlib.Core.Path.{refl, sym, ap, ◌∙◌}
-use native.Mathlib.Omega.{arith}
-use lib.ListN.{length-set}
-use lib.Seq.{take_all}
+-- The bytes are copied into the part from the place on; what stands behind that part is kept.
+use Rattle.std.proofs.Common.{◌≡◌, ℕ, ◌+◌, ◌-◌, List, ◌++◌, length, take, refl, ap, arith}
+use lib.Seq.{drop-drop}
 use Rattle.fields.specs.promises.Writing.{put}
-use Rattle.fields.proofs.PutLaws.{put_nil, put_take}
 use Rattle.fields.proofs.write.put_bytes.Goals as goal
 
-pub loop-i-init : goal.loop-i-init
-loop-i-init c = record { inside = omega arith; size = refl; bytes = sym (put_nil _ _) }
-
-pub loop-i-preserved : goal.loop-i-preserved
-loop-i-preserved c =
-    let l = c.before.before.loop-i in
-    let s = c.before.before.before.args.s.now in
-    record {
-      inside = omega arith;
-      size = length-set l.out _ _ ∙ l.invariant.size;
-      bytes = rw l.invariant.bytes (put_take _ _ s l.i (omega arith) (omega arith));
-    }
-
 pub returns : goal.returns
+unfolding put
 returns c =
-    let l = c.before.loop-i in
-    let a = c.before.before.args in
-    record { bytes = l.invariant.bytes ∙ ap (put a.out.now a.at) (take_all l.i a.s.now (omega arith)); place = refl }
+    let a = c.args in
+    let n : a.at + length a.s.now - a.at ≡ length a.s.now = omega arith in
+    record {
+      bytes = rw (c.copy_from_slice.ensures.after, n)
+          (ap (λ (l : List ℕ). take a.at a.out.now ++ (a.s.now ++ l)) (drop-drop (length a.s.now) a.at a.out.now));
+      place = refl;
+    }

@@ -1,13 +1,14 @@
--- Two bytes stored one after another, the low one first, are the field written at the place.
-use native.Mathlib.Omega.{arith}
-use lib.ListN.{length-set}
+-- The field's two bytes, the low one first, are copied into the part from the place on; what stands behind that part is kept.
+use Rattle.std.proofs.Common.{◌≡◌, ◌+◌, ◌-◌, ◌/◌, ◌%◌, arith}
+use lib.Seq.{drop-drop}
 use Rattle.fields.specs.Numbers.{u16_bytes}
-use Rattle.fields.proofs.PutLaws.{put_two}
+use Rattle.fields.specs.promises.Writing.{put}
 use Rattle.fields.proofs.write.put_u16.Goals as goal
 
-pub bounds-out-at-2 : goal.bounds-out-at-2
-bounds-out-at-2 c = simp length-set (omega arith)
-
 pub returns : goal.returns
-unfolding u16_bytes
-returns c = put_two _ _ _ _ (omega arith)
+unfolding put u16_bytes
+returns c =
+    let a = c.args in
+    let n : a.at + 2 - a.at ≡ 2 = omega arith in
+    let high : a.x / 256 % 256 ≡ a.x / 256 = omega arith in
+    rw (c.copy_from_slice.ensures.after, n, c.to_le_bytes.ensures, drop-drop 2 a.at a.out.now, high)

@@ -1,8 +1,12 @@
+-- Each record is checked as the definition's turn checks it; one that passes is marked, so that a clear mark fewer is left.
 use mathlib.Core.Path.{◌≡◌, sym, ap, ◌∙◌}
 use mathlib.Core.Bool.{true, not}
 use mathlib.Core.List.{List}
+use Rattle.std.specs.Prelude.{⊤, Result, Ok}
+use Rattle.house_layout.specs.declared.reply.Refusal.{Refusal}
 use Prim.Native.Nat.{ℕ, ◌-◌, ◌≤◌, ◌<◌}
 use native.Mathlib.Omega.{arith}
+use Rattle.house_layout.proofs.Exits.{left_with}
 use lib.Dec.{eqb}
 use lib.ListN.{length-set, length, get_or}
 use Rattle.masks.specs.promises.Mask.{test_bit}
@@ -13,12 +17,10 @@ use Rattle.house_layout.specs.Layout.{parties_of, labels_of, records_of, record_
 use Rattle.house_layout.specs.Fields.{legal_kind, judge_record}
 use Rattle.house_layout.specs.declared.header.Header.{Header}
 use Rattle.house_layout.specs.declared.record.Record.{Record}
-use Rattle.house_layout.specs.declared.reply.Check.{Check}
-use Rattle.house_layout.specs.declared.reply.Check.TheVariants.{Accepted}
 use Rattle.house_layout.specs.promises.Kinds.{bit_of}
 use Rattle.house_file.specs.promises.Reading.{ChainThere}
 use Rattle.house_file.proofs.ChainLaws.{judged, here_start, here_end}
-use Rattle.house_file.proofs.ChainLaws.{here_link, here_refused, here_next, tests, clearer, unlike}
+use Rattle.house_file.proofs.ChainLaws.{here_link, here_refused, here_next, tests, clearer}
 use Rattle.house_file.proofs.chain.read_chain.Goals as goal
 
 -- the file's numbers, as its header has them
@@ -40,14 +42,14 @@ module _ {f : List ℕ} {h : Header} {u : ℕ} {old : List ℕ} (there : ChainTh
   long marks p z l = omega (arith, p, z, l, there.framed.records)
 
   -- the record's checks are those of the definition's turn
-  checked : (marks : List ℕ) (row : Row) (at : ℕ) {x : Record} {r : Check} → x ≡ record_of f at
+  checked : (marks : List ℕ) (row : Row) (at : ℕ) {x : Record} {r : Result ⊤ Refusal} → x ≡ record_of f at
       → r ≡ judge_record h.parties h.labels u x (not (eqb (get_or marks (at - 1) 0) 0)) (test_bit (mask_in row x.target) (bit_of x.kind))
       → r ≡ judged f u marks row at
   unfolding judged
   checked marks row at e j = j ∙ rw (e, there.framed.numbers)
 
   -- what an accepted record's tests say of the record that was read
-  module _ (marks : List ℕ) (row : Row) (at : ℕ) {x : Record} (read : x ≡ record_of f at) (e : judged f u marks row at ≡ Accepted) where
+  module _ (marks : List ℕ) (row : Row) (at : ℕ) {x : Record} (read : x ≡ record_of f at) (e : judged f u marks row at ≡ Ok tt) where
     legal : legal_kind (labels_of f) x.kind ≡ true
     legal = rw read (tests f u marks row at e).kind
 
@@ -66,33 +68,31 @@ pub returns-then-h-at-clause-read : goal.returns-then-h-at-clause-read
 returns-then-h-at-clause-read c =
     λ before m.
     let l = c.loop-at in
-    let w = here_link _ _ before _ _ _ (l.invariant.1 before m) c.loop-at-test.true (omega (arith, records c.requires, c.if-h-at.true)) in
-    record { reply = rw w; kept = λ p e. unlike w e }
+    here_link _ _ before _ _ _ (l.invariant.1 before m) c.loop-at-test.true (omega (arith, records c.requires, c.if-h-at.true))
 
-pub returns-in-Refused-clause-read : goal.returns-in-Refused-clause-read
-returns-in-Refused-clause-read c =
+pub returns-in_err-check_record-clause-read : goal.returns-in_err-check_record-clause-read
+returns-in_err-check_record-clause-read c =
     λ before m.
     let l = c.loop-at in
-    let w =
-    here_refused _ _ before _ _ _ (l.invariant.1 before m) c.loop-at-test.true (in_file c.requires c.if-h-at.false) _
-    (sym (checked c.requires _ _ _ c.read_record-x.ensures c.check_record-reply.ensures) ∙ c.in-Refused.is) in
-    record { reply = rw w; kept = λ p e. unlike w e }
+    rw (left_with c.from_residual.result c.from_residual.ensures.1)
+    (here_refused _ _ before _ _ _ (l.invariant.1 before m) c.loop-at-test.true (in_file c.requires c.if-h-at.false) _
+    (sym (checked c.requires _ _ _ c.read_record-x.ensures c.check_record.ensures) ∙ c.in_err-check_record.was))
 
 pub bit_of-requires : goal.bit_of-requires
 bit_of-requires c =
-    let a = sym (checked c.requires _ _ _ c.read_record-x.ensures c.check_record-reply.ensures) ∙ c.in-Accepted.is in
+    let a = sym (checked c.requires _ _ _ c.read_record-x.ensures c.check_record.ensures) ∙ c.in_ok-check_record.was in
     kind_small _ (bounded c.requires) _ (legal c.requires _ _ _ c.read_record-x.ensures a)
 
 pub add-row-requires : goal.add-row-requires
 add-row-requires c =
-    let a = sym (checked c.requires _ _ _ c.read_record-x.ensures c.check_record-reply.ensures) ∙ c.in-Accepted.is in (
+    let a = sym (checked c.requires _ _ _ c.read_record-x.ensures c.check_record.ensures) ∙ c.in_ok-check_record.was in (
       below c.requires _ _ _ c.read_record-x.ensures a,
       rw c.bit_of.ensures (bit_small _ (bounded c.requires) _ (legal c.requires _ _ _ c.read_record-x.ensures a)),
     )
 
 pub loop-at-smaller : goal.loop-at-smaller
 loop-at-smaller c =
-    let a = sym (checked c.requires _ _ _ c.read_record-x.ensures c.check_record-reply.ensures) ∙ c.in-Accepted.is in
+    let a = sym (checked c.requires _ _ _ c.read_record-x.ensures c.check_record.ensures) ∙ c.in_ok-check_record.was in
     omega (
       arith,
       clearer _ _ _ _ _ a c.loop-at-test.true (in_file c.requires c.if-h-at.false)
@@ -103,7 +103,7 @@ pub loop-at-preserved : goal.loop-at-preserved
 loop-at-preserved c =
     let l = c.loop-at in
     let x = c.read_record-x.ensures in
-    let a = sym (checked c.requires _ _ _ x c.check_record-reply.ensures) ∙ c.in-Accepted.is in (
+    let a = sym (checked c.requires _ _ _ x c.check_record.ensures) ∙ c.in_ok-check_record.was in (
       length-set l.marks _ _ ∙ l.invariant.0,
       λ before m.
           rw x (here_next _ _ before _ _ _ (l.invariant.1 before m) c.loop-at-test.true (in_file c.requires c.if-h-at.false)
@@ -116,5 +116,4 @@ pub returns-clause-read : goal.returns-clause-read
 returns-clause-read c =
     λ before m.
     let h = c.loop-at.invariant.1 before m in
-    let w = here_end _ _ before _ _ _ h c.loop-at-test.false in
-    record { reply = rw w; kept = λ p e. let q : h.earlier ≡ p = cc in rw (← q) (h.marked, h.kinds) }
+    record { chain = h.earlier; followed = here_end _ _ before _ _ _ h c.loop-at-test.false; marked = h.marked; kinds = h.kinds }

@@ -1,6 +1,6 @@
--- Invariant: the mask is filled for the parties below v. Measure: the places left.
+-- Invariant: the mask is filled for the parties below v.
 use mathlib.Core.Bool.{Bool}
-use Prim.Native.Nat.{ℕ, ◌-◌, ◌≤◌}
+use Prim.Native.Nat.{ℕ}
 use Rattle.masks.specs.promises.Mask.{test_bit}
 use Rattle.masks.specs.promises.Table.{mask_in}
 use Rattle.masks.specs.declared.Row.{Row}
@@ -12,7 +12,4 @@ abbrev pub permits : Row → ℕ → Bool
 permits row x = test_bit (mask_in row x) 31
 
 abbrev pub invariant-loop-v : goal.invariant-loop-v
-invariant-loop-v l = (l.v ≤ 32) × Filled (permits l.row) l.v l.mask
-
-abbrev pub decreases-loop-v : goal.decreases-loop-v
-decreases-loop-v l = 32 - l.v
+invariant-loop-v l = Filled (permits l.row) l.v l.mask

@@ -1,3 +1,4 @@
+-- A table has no row past its places.
 use mathlib.Core.Path.{◌≡◌, sym, ◌∙◌}
 use mathlib.Core.Logic.{by_cases}
 use native.Mathlib.Decide.{dec_lt}
@@ -12,7 +13,7 @@ returns c =
     let l = c.loop-u in
     let t = c.args.kinds in
     let n : length t.rows ≡ 32 = c.well_formed.0.1.1.0.1.0.1 in
-    λ u v. by_cases (dec_lt u 32)
-    (λ h. l.invariant.filled u v (omega (arith, l.invariant.inside, c.loop-u-test.false, h)))
-    (λ h. rw (l.invariant.empty u (omega (arith, l.invariant.inside, h)), get_or-eq_default t.rows no_row {n = u} (omega (arith, n, h)))
+    λ u v. by_cases (dec_lt u (length t.rows))
+    (λ h. l.invariant.filled u v (omega arith))
+    (λ h. rw (l.invariant.empty u (omega arith), get_or-eq_default t.rows no_row {n = u} (omega arith))
     (zero_bit v ∙ sym (zero_bit 31)))

@@ -4,13 +4,13 @@ use mathlib.Core.List.{List}
 use Prim.Native.Nat.{ℕ, ◌+◌, ◌*◌, ◌≤◌}
 use mathlib.Core.Bool.{true}
 use native.Mathlib.Omega.{arith}
+use Rattle.house_layout.proofs.Exits.{left_with}
 use Rattle.house_layout.specs.Layout.{header_of, record_size, labels_of, size_of, permit_kind}
 use Rattle.house_layout.specs.Fields.{fields_in_range}
 use Rattle.house_layout.specs.declared.header.Header.{Header}
 use Rattle.house_file.specs.Meaning.{is_permitted}
 use Rattle.house_layout.proofs.LayoutLaws.{size_most}
 use Rattle.house_layout.proofs.RecordLaws.{permit_legal}
-use Rattle.house_file.proofs.DecodeLaws.{refused_not}
 use Rattle.house_file.proofs.WellFormedLaws.{check_short, check_field, check_size, check_chains, fields_right}
 use Rattle.house_file.proofs.decode.read.Goals as goal
 
@@ -33,65 +33,56 @@ bounded : {h : Header} {s : ℕ} → Small h → s ≡ record_size h.edition →
 bounded {h} n q = rw q (omega (arith, size_most h.edition h.records, n.records))
 
 pub returns-then-file-lt-HEADER_SIZE : goal.returns-then-file-lt-HEADER_SIZE
-returns-then-file-lt-HEADER_SIZE c =
-    let w = check_short _ c.if-file-lt-HEADER_SIZE.true in
-    record { reply = c.refused.ensures ∙ sym w; house = λ a. refused_not w a }
+returns-then-file-lt-HEADER_SIZE c = check_short _ c.if-file-lt-HEADER_SIZE.true
 
 pub returns-then-not-fields_in_range : goal.returns-then-not-fields_in_range
 returns-then-not-fields_in_range c =
-    let w = check_field _ c.if-file-lt-HEADER_SIZE.false (sym c.fields_in_range.ensures ∙ c.if-not-fields_in_range.true) in
-    record { reply = c.refused-then-not-fields_in_range.ensures ∙ sym w; house = λ a. refused_not w a }
+    check_field _ c.if-file-lt-HEADER_SIZE.false (sym c.fields_in_range.ensures ∙ c.if-not-fields_in_range.true)
 
 pub overflow_mul-record_size : goal.overflow_mul-record_size
 overflow_mul-record_size c =
-    let s = small _ c.read_header-h.ensures (sym c.fields_in_range.ensures ∙ c.if-not-fields_in_range.false) in
+    let s = small _ c.read_header-header.ensures (sym c.fields_in_range.ensures ∙ c.if-not-fields_in_range.false) in
     omega (arith, bounded s c.record_size.ensures)
 
-pub overflow_add-h-2 : goal.overflow_add-h-2
-overflow_add-h-2 c =
-    let s = small _ c.read_header-h.ensures (sym c.fields_in_range.ensures ∙ c.if-not-fields_in_range.false) in
+pub overflow_add-header-2 : goal.overflow_add-header-2
+overflow_add-header-2 c =
+    let s = small _ c.read_header-header.ensures (sym c.fields_in_range.ensures ∙ c.if-not-fields_in_range.false) in
     omega (arith, bounded s c.record_size.ensures, s.parties)
 
-pub returns-then-file-h : goal.returns-then-file-h
-returns-then-file-h c =
-    let w =
+pub returns-then-file-header : goal.returns-then-file-header
+returns-then-file-header c =
     check_size _ c.if-file-lt-HEADER_SIZE.false (sym c.fields_in_range.ensures ∙ c.if-not-fields_in_range.false)
-    (λ q. c.if-file-h.true (q ∙ sym (said _ _ c.read_header-h.ensures c.record_size.ensures))) in
-    record { reply = c.refused-then-file-h.ensures ∙ sym w; house = λ a. refused_not w a }
+    (λ q. c.if-file-header.true (q ∙ sym (said _ _ c.read_header-header.ensures c.record_size.ensures)))
 
-pub read_chains-c-requires : goal.read_chains-c-requires
-read_chains-c-requires c =
-    let s = small _ c.read_header-h.ensures (sym c.fields_in_range.ensures ∙ c.if-not-fields_in_range.false) in
+pub read_chains-requires : goal.read_chains-requires
+read_chains-requires c =
+    let s = small _ c.read_header-header.ensures (sym c.fields_in_range.ensures ∙ c.if-not-fields_in_range.false) in
     record {
-      numbers = c.read_header-h.ensures;
+      numbers = c.read_header-header.ensures;
       parties = s.parties;
       labels = s.labels;
       records = s.records;
-      size = c.if-file-h.false ∙ said _ _ c.read_header-h.ensures c.record_size.ensures;
+      size = c.if-file-header.false ∙ said _ _ c.read_header-header.ensures c.record_size.ensures;
     }
 
-pub returns-in-Refused : goal.returns-in-Refused
-returns-in-Refused c =
+pub returns-in_err-kinds : goal.returns-in_err-kinds
+returns-in_err-kinds c =
     let k =
     check_chains _ c.if-file-lt-HEADER_SIZE.false (sym c.fields_in_range.ensures ∙ c.if-not-fields_in_range.false)
-    (c.if-file-h.false ∙ said _ _ c.read_header-h.ensures c.record_size.ensures) in
-    let w = k ∙ sym c.read_chains-c.ensures.reply ∙ c.in-Refused.is in
-    record { reply = c.refused-in-Refused.ensures ∙ sym w; house = λ a. refused_not w a }
+    (c.if-file-header.false ∙ said _ _ c.read_header-header.ensures c.record_size.ensures) in
+    rw (left_with c.from_residual.result c.from_residual.ensures.1) (k ∙ c.in_err-kinds.ensures)
 
-pub returns-in-Accepted : goal.returns-in-Accepted
+pub returns : goal.returns
 unfolding is_permitted
-returns-in-Accepted c =
+returns c =
     let k =
     check_chains _ c.if-file-lt-HEADER_SIZE.false (sym c.fields_in_range.ensures ∙ c.if-not-fields_in_range.false)
-    (c.if-file-h.false ∙ said _ _ c.read_header-h.ensures c.record_size.ensures) in
-    let r = c.read_chains-c.ensures in
-    let w = k ∙ sym r.reply ∙ c.in-Accepted.is in
-    record {
-      reply = sym w;
-      house = λ a. record {
-        header = c.read_header-h.ensures;
-        kinds = r.kinds (sym k ∙ a);
-        permits =
-            λ u v. c.permit_masks-permits.ensures u v ∙ r.kinds (sym k ∙ a) u v permit_kind (permit_legal (labels_of c.args.file.now));
-      };
-    }
+    (c.if-file-header.false ∙ said _ _ c.read_header-header.ensures c.record_size.ensures) in
+    let r = c.in_ok-kinds.ensures in (
+      k ∙ r.0,
+      record {
+        header = c.read_header-header.ensures;
+        kinds = r.1;
+        permits = λ u v. c.permit_masks-permits.ensures u v ∙ r.1 u v permit_kind (permit_legal (labels_of c.args.file.now));
+      },
+    )

@@ -1,21 +1,15 @@
 -- Invariant: the chains below party u were followed, the marks and the rows say what they have (`Upto`, DecodeLaws).
--- Measure: the parties left.
 use mathlib.Core.Path.{◌≡◌}
 use mathlib.Core.List.{List}
-use Prim.Native.Nat.{ℕ, ◌-◌, ◌≤◌}
+use Prim.Native.Nat.{ℕ}
 use lib.ListN.{length}
 use Rattle.masks.specs.declared.Table.{Table}
-use Rattle.house_layout.specs.declared.header.Header.{Header}
 use Rattle.house_file.proofs.DecodeLaws.{Upto}
 use Rattle.house_file.proofs.decode.read_chains.Given as goal
 
-pub record ChainsTo (f : List ℕ) (h : Header) (marks : List ℕ) (kinds : Table) (u : ℕ) : Type 0 where
-  pub inside : u ≤ h.parties
+pub record ChainsTo (f : List ℕ) (marks : List ℕ) (kinds : Table) (u : ℕ) : Type 0 where
   pub places : length marks ≡ 8928
   pub upto : Upto f u marks kinds
 
 abbrev pub invariant-loop-u : goal.invariant-loop-u
-invariant-loop-u l = ChainsTo l.file l.h l.marks l.kinds l.u
-
-abbrev pub decreases-loop-u : goal.decreases-loop-u
-decreases-loop-u l = l.h.parties - l.u
+invariant-loop-u l = ChainsTo l.file l.marks l.kinds l.u

@@ -21,17 +21,17 @@ bounds-file-at c = let i = inside c.requires c.record_size.ensures in omega (ari
 pub bounds-file-at-2 : goal.bounds-file-at-2
 bounds-file-at-2 c = let i = inside c.requires c.record_size.ensures in omega (arith, i.0, i.1)
 
-pub u16_at-next-requires : goal.u16_at-next-requires
-u16_at-next-requires c = let i = inside c.requires c.record_size.ensures in omega (arith, i.0, i.1)
+pub u16_at-requires : goal.u16_at-requires
+u16_at-requires c = let i = inside c.requires c.record_size.ensures in omega (arith, i.0, i.1)
 
 pub returns : goal.returns
 unfolding record_of
 returns c =
     rw (
-      c.wide-target.ensures.0,
-      c.wide-kind.ensures.0,
-      c.u16_at-next.ensures.0,
-      c.read_owner-owner.ensures,
+      c.from.ensures,
+      c.from-2.ensures,
+      c.u16_at.ensures.0,
+      c.read_owner.ensures,
       c.record_size.ensures,
       c.requires.numbers,
     )

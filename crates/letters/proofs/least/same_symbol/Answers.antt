@@ -1,20 +1,25 @@
-use borrow.Author.Rules.{rules}
-use mathlib.Core.Path.{sym}
-use native.Mathlib.Omega.{arith}
-use Rattle.lists.proofs.Cases.{clash}
-use Rattle.letters.proofs.WritingLaws.{one_more, same_code}
+-- The closure compares the two symbols at a pair as the code does (WritingLaws).
+use Rattle.std.proofs.Common.{◌≡◌, ◌∙◌, ℕ, ◌<◌, Bool, true, length, get_or, MatchBool, refl, zero-add, arith, rules, tests}
+use Rattle.std.specs.List.{range_with_len, AllWithin}
+use Rattle.std.proofs.lemmas.Iterator.{cases_from_all, YieldsList-from_range}
+use Rattle.std.proofs.lemmas.List.FromFn.{get_or-range_with_len, length-range_with_len}
+use Rattle.masks.specs.promises.Mask.{test_bit}
+use Rattle.letters.specs.promises.Writing.{pair_mask}
+use Rattle.letters.proofs.WritingLaws.{same_code}
 use Rattle.letters.proofs.least.same_symbol.Goals as goal
 
-pub loop-k-init : goal.loop-k-init
-loop-k-init c = (search rules, λ i h. absurd (omega arith))
-
-pub returns-then-mask-s : goal.returns-then-mask-s
-returns-then-mask-s c e = clash (sym e)
-
-pub loop-k-preserved : goal.loop-k-preserved
-loop-k-preserved c =
-    let l = c.before.before.before.before.loop-k in
-    (search rules, one_more _ l.k l.invariant.1 (same_code _ _ _ c.if-mask-s.false))
+-- what holds at each number below n
+each_below : (P : ℕ → Type 0) (n : ℕ) (No : Type 0) (r : Bool)
+    → MatchBool r (AllWithin P (range_with_len 0 n) 0 (length (range_with_len 0 n))) No
+    → r ≡ true → (i : ℕ) → i < n → P i
+each_below P n No r h e i l =
+    let all = rw e at h in
+    let k : get_or (range_with_len 0 n) i 0 ≡ i = get_or-range_with_len 0 n i 0 l ∙ zero-add i in
+    rw k at (all i 0 (omega arith) (omega (arith, length-range_with_len 0 n)))
 
 pub returns : goal.returns
-returns c e i h = c.before.loop-k.invariant.1 i (omega (arith, c.loop-k-test.false))
+returns c =
+    let a = c.args in
+    each_below (λ k. test_bit (pair_mask a.g.now k) a.s ≡ test_bit (pair_mask a.g.now k) a.other) 1024 _ _
+    (cases_from_all _ _ _ (λ k. test_bit (pair_mask a.g.now k) a.s ≡ test_bit (pair_mask a.g.now k) a.other) (λ k. Unit {0})
+    c.all.ensures.ran (YieldsList-from_range 0 1024 1024 refl refl) (λ x q k. search (rules, tests, same_code)) (λ x q k. tt))

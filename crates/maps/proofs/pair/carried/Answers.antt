@@ -1,17 +1,19 @@
 -- A map that carries every symbol and takes the one pair to the other shows it (MapLaws).
-use mathlib.Core.Path.{refl}
-use Rattle.lists.proofs.Cases.{both}
+use Rattle.std.proofs.Common.{sym, ◌∙◌, ◌<◌, arith}
+use borrow.Author.Tests.{eqb-true}
 use Rattle.maps.proofs.MapLaws.{map_covers}
+use Rattle.maps.proofs.pair.carried.Goals.{then-image_of-q, else-image_of-q}
 use Rattle.maps.proofs.pair.carried.Goals as goal
 
-pub returns-then-m-second : goal.returns-then-m-second
-returns-then-m-second c e =
-    let a = c.args in
-    map_covers a.n a.g _ (c.carries.ensures e) a.first a.second a.u a.v c.requires.is_pair.first
-    c.if-m-first.true c.if-m-second.true
-
-pub returns-else-m-second : goal.returns-else-m-second
-returns-else-m-second c e = both e refl
-
-pub returns-else-m-first : goal.returns-else-m-first
-returns-else-m-first c e = both e refl
+pub returns-then-image_of-q-2 : goal.returns-then-image_of-q-2
+returns-then-image_of-q-2 c e =
+    let q = c.args.q.now in
+    let m = c.in-Some.m in
+    let h : q.first < m.parties = omega (arith, c.in-Some.ensures, q.is_pair.first) in
+    rw (sym c.in-Some.ensures)
+    (elim c.if-image_of-q.branch [
+      | then-image_of-q w ↦ map_covers q.graph.table m (c.carries.ensures e) q.first q.second q.u q.v h
+          (sym c.image_of.ensures.value ∙ w.if-image_of-q.true)
+          (sym w.image_of-then-image_of-q.ensures.value ∙ eqb-true _ _ (sym w.value-is ∙ c.if-image_of-q-2.true))
+      | else-image_of-q w ↦ absurd (w.if-image_of-q.false (eqb-true _ _ (sym w.value-is ∙ c.if-image_of-q-2.true)))
+    ])

@@ -1,11 +1,10 @@
 -- The first word stands as a term of its own, and extend_term does the rest.
 use mathlib.Core.Path.{◌≡◌, refl, sym, ap, ◌∙◌}
-use mathlib.Core.Bool.{not, false}
 use mathlib.Core.List.{List, [], ◌∷◌}
 use mathlib.Core.Option.{some}
+use Rattle.std.specs.Prelude.{Result}
 use Prim.Native.Nat.{ℕ, ◌+◌, ◌≤◌}
 use native.Mathlib.Omega.{arith}
-use borrow.Author.Tests.{not-true, not-false}
 use lib.ListN.{length}
 use Rattle.rebac.specs.Matter.{Matter, Pair}
 use Rattle.rebac.specs.Verdict.{judge}
@@ -15,38 +14,30 @@ use Rattle.graph.specs.promises.Archive.{Shows}
 use Rattle.masks.specs.declared.Row.{Row}
 use Rattle.search.specs.Word.{symbols_in}
 use Rattle.search.specs.promises.WalkPairs.{CoversPairs}
-use Rattle.search.specs.promises.WordValues.{Short}
-use Rattle.search.proofs.SearchLaws.{symbols_length}
-use Rattle.words.specs.declared.next.Next.{Next}
-use Rattle.words.specs.promises.Next.{NextAs}
-use Rattle.words.proofs.NextLaws.{next_not}
+use Rattle.search.specs.declared.word.ShortWord.{ShortWord}
+use Rattle.search.proofs.SearchLaws.{symbols_length, short_fits}
 use Rattle.fields.specs.Numbers.{u16_bytes}
 use Rattle.rule_bytes.specs.ListBytes.{encode_term}
 use Rattle.fields.specs.promises.Writing.{put}
 use Rattle.fields.proofs.NumberLaws.{u16_size}
 use Rattle.fields.proofs.PutLaws.{put_length, put_over}
 use Rattle.mining.specs.promises.Building.{problem_in, first_bytes, first_term, CoversTerm, OutcomeAs, TermRoom, TermBegun}
-use Rattle.mining.specs.declared.build.Outcome.{Outcome}
+use Rattle.mining.specs.declared.build.Obstacle.{Obstacle}
 use Rattle.mining.proofs.ArchiveLaws.{shown_bounded}
-use Rattle.mining.proofs.LackedLaws.{found_some}
 use Rattle.mining.proofs.FirstLaws.{no_words, first_none, first_full, first_bytes_lem, first_term_lem, first_size, first_part}
 use Rattle.mining.proofs.FirstLaws.{outcome_over}
 use Rattle.mining.proofs.CoverLaws.{covers_one}
 use Rattle.mining.proofs.build.build_term.Goals as goal
 
--- what first_word ensures
-abbrev FirstAs : Archive → Pair → Next → Type 0
-FirstAs a p r = Short r.word × ((M : Matter) → Shows M a → NextAs (next_word M p []) r)
-
 -- where a first word was found: the pair, the output as it was, and the word
-module _ {a : Archive} {p : Pair} {at : ℕ} (old : List ℕ) (t : TermRoom a p at (length old)) (r : Next) (s : FirstAs a p r)
-    (f : not r.found ≡ false) where
+module _ {a : Archive} {p : Pair} {at : ℕ} (old : List ℕ) (t : TermRoom a p at (length old)) (r : ShortWord)
+    (s : (M : Matter) → Shows M a → next_word M p [] ≡ some (symbols_in r.word)) where
   first : next_word t.shown.0 p [] ≡ some (symbols_in r.word)
-  first = found_some _ _ (s.1 _ t.shown.1) (not-false _ f)
+  first = s _ t.shown.1
 
   -- the bytes of its term, and the room for them
   size : length (first_bytes a p) ≡ 3 + r.word.len
-  size = first_size t.shown.1 p first ∙ omega (arith, symbols_length r.word (omega (arith, s.0.len, s.0.full)))
+  size = first_size t.shown.1 p first ∙ omega (arith, symbols_length r.word (short_fits r.short))
 
   room : at + (3 + r.word.len) ≤ length old
   room = omega (arith, size, first_part a p, t.room)
@@ -79,62 +70,59 @@ module _ {a : Archive} {p : Pair} {at : ℕ} (old : List ℕ) (t : TermRoom a p 
           covers = covered;
         }
 
-    done : (new : List ℕ) (o : Outcome) → OutcomeAs a p at out new (judge (problem_in a) p) o
+    done : (new : List ℕ) (o : Result ℕ Obstacle) → OutcomeAs a p at out new (judge (problem_in a) p) o
         → OutcomeAs a p at old new (judge (problem_in a) p) o
     done new o h = outcome_over a p at old new (judge (problem_in a) p) o (omega (arith, t.room)) (rw written at h)
 
-pub first_word-c-requires : goal.first_word-c-requires
-first_word-c-requires c = (c.requires.is_pair, c.requires.shown)
+pub first_word-requires : goal.first_word-requires
+first_word-requires c = (c.requires.is_pair, c.requires.shown)
 
-pub returns-then-not-c : goal.returns-then-not-c
-returns-then-not-c c =
+pub returns-in_default : goal.returns-in_default
+returns-in_default c =
     let S = c.requires.shown.1 in
-    rw (first_none S _ (next_not _ _ (c.first_word-c.ensures.1 _ S) (not-true _ c.if-not-c.true))) refl
+    rw (first_none S _ (c.in_default.ensures _ S)) refl
 
 pub put_u16-requires : goal.put_u16-requires
-put_u16-requires c = (omega arith, omega (arith, room c.args.out.now c.requires _ c.first_word-c.ensures c.if-not-c.false))
+put_u16-requires c = (omega arith, omega (arith, room c.args.out.now c.requires c.in-Some.w c.in-Some.ensures))
 
 pub overflow_add-at : goal.overflow_add-at
-overflow_add-at c = omega (arith, room c.args.out.now c.requires _ c.first_word-c.ensures c.if-not-c.false)
+overflow_add-at c = omega (arith, room c.args.out.now c.requires c.in-Some.w c.in-Some.ensures)
 
 pub add_word-requires : goal.add_word-requires
 add_word-requires c =
     let old = c.args.out.now in
-    let r = c.first_word-c.result in
-    let s = c.first_word-c.ensures in
-    let f = c.if-not-c.false in
+    let w = c.in-Some.w in
+    let s = c.in-Some.ensures in
     record {
-      short = s.0.len;
+      short = w.short.len;
       count = omega arith;
       start = omega arith;
-      room = omega (arith, (count old c.requires r s f c.put_u16.ensures).1, room old c.requires r s f);
+      room = omega (arith, (count old c.requires w s c.put_u16.ensures).1, room old c.requires w s);
     }
 
-pub walk_pairs-walked-requires : goal.walk_pairs-walked-requires
-walk_pairs-walked-requires c = (shown_bounded c.requires.shown, c.first_word-c.ensures.0)
+pub invariant_of-graph : goal.invariant_of-graph
+invariant_of-graph c = record { within = shown_bounded c.requires.shown }
 
 pub overflow_add-at-2 : goal.overflow_add-at-2
-overflow_add-at-2 c = omega (arith, room c.args.out.now c.requires _ c.first_word-c.ensures c.if-not-c.false)
+overflow_add-at-2 c = omega (arith, room c.args.out.now c.requires c.in-Some.w c.in-Some.ensures)
 
 pub overflow_add-at-3 : goal.overflow_add-at-3
-overflow_add-at-3 c = omega (arith, room c.args.out.now c.requires _ c.first_word-c.ensures c.if-not-c.false)
+overflow_add-at-3 c = omega (arith, room c.args.out.now c.requires c.in-Some.w c.in-Some.ensures)
 
 pub extend_term-requires : goal.extend_term-requires
 extend_term-requires c =
     let old = c.args.out.now in
-    let r = c.first_word-c.result in
-    let s = c.first_word-c.ensures in
-    let f = c.if-not-c.false in
-    let k = count old c.requires r s f c.put_u16.ensures in
+    let w = c.in-Some.w in
+    let s = c.in-Some.ensures in
+    let k = count old c.requires w s c.put_u16.ensures in
     let e = c.add_word.ensures old [] refl (omega (arith, ap length no_words, u16_size 0)) k.0 (sym k.1) in
-    begun old c.requires r s f e c.walk_pairs-walked.ensures
+    begun old c.requires w s e c.walk_pairs-walked.ensures
 
 pub returns : goal.returns
 returns c =
     let old = c.args.out.now in
-    let r = c.first_word-c.result in
-    let s = c.first_word-c.ensures in
-    let f = c.if-not-c.false in
-    let k = count old c.requires r s f c.put_u16.ensures in
+    let w = c.in-Some.w in
+    let s = c.in-Some.ensures in
+    let k = count old c.requires w s c.put_u16.ensures in
     let e = c.add_word.ensures old [] refl (omega (arith, ap length no_words, u16_size 0)) k.0 (sym k.1) in
-    done old c.requires r s f e _ _ c.extend_term.ensures
+    done old c.requires w s e _ _ c.extend_term.ensures

@@ -1,102 +1,74 @@
 use mathlib.Core.Path.{sym, ◌∙◌}
-use native.Mathlib.Omega.{arith}
-use Rattle.rebac.specs.Matter.{pair}
+use Rattle.mining.specs.Values.{pair_in}
 use Rattle.search.specs.Word.{symbols_in}
-use Rattle.paths.proofs.CallLaws.{query_in, next_shown}
+use Rattle.paths.proofs.CallLaws.{next_shown}
 use Rattle.mining.proofs.LackedLaws.{in_hand, passed_end, passed_here, passed_had}
-use Rattle.mining.proofs.LackedLaws.{left_falls, longest_in, in_hand_short, in_hand_some}
+use Rattle.mining.proofs.LackedLaws.{left_falls, in_hand_short, in_hand_some}
 use Rattle.mining.proofs.ShortcutLaws.{covered_none}
 use Rattle.mining.proofs.lacked.lacked_after.Goals as goal
 
-pub carried-requires : goal.carried-requires
-carried-requires c =
-    let p = c.requires.pairs in
-    let S = p.shown.1 in
-    record { parties = omega (arith, S.parties, S.limits.parties.1); is_pair = p.is_pair; is_image = p.other }
-
 pub returns-then-carried : goal.returns-then-carried
-returns-then-carried c =
-    let n = c.nothing.ensures in
-    let k = c.carried.ensures c.if-carried.true in (
-      rw n.1 c.requires.short,
-      λ M S. rw (covered_none S (pair c.args.first c.args.second) (pair c.args.u c.args.v) k) n.0,
-    )
+returns-then-carried c M S = covered_none S (pair_in c.args.p) (pair_in c.args.q) (c.carried.ensures c.if-carried.true)
 
-pub next_word-c-requires : goal.next_word-c-requires
-next_word-c-requires c =
-    let p = c.requires.pairs in
-    let S = p.shown.1 in
-    record { query = query_in _ c.args.a S _ _ _ p.is_pair c.requires.short; within = c.requires.within; longest = longest_in S }
-
-pub loop-c-init : goal.loop-c-init
-loop-c-init c =
-    let e = c.next_word-c.ensures in (
-      e.0,
-      λ M S. record {
-        from = symbols_in c.args.had;
-        next = next_shown M c.args.a S _ c.args.had c.requires.short c.requires.within _ e.1;
-        same = c.requires.had M S;
-      },
-    )
-
-pub has_word-requires : goal.has_word-requires
-has_word-requires c =
-    let p = c.requires.pairs in
-    query_in p.shown.0 c.args.a p.shown.1 _ _ _ p.other c.loop-c.invariant.0
+pub loop-next-init : goal.loop-next-init
+loop-next-init c M S =
+    let o = c.own-own.ensures in
+    let w = c.args.had in
+    record {
+      from = symbols_in w.word;
+      next = next_shown M c.args.a S _ w.word w.short c.requires.within _ (rw (o.graph, o.first, o.second) at c.next_word-next.ensures);
+      same = c.requires.had M S;
+    }
 
 pub returns-then-not-has_word : goal.returns-then-not-has_word
-returns-then-not-has_word c =
-    let l = c.loop-c in
-    let no = sym c.has_word.ensures ∙ c.if-not-has_word.true in
-    (l.invariant.0, λ M S. passed_here (l.invariant.1 M S) c.loop-c-test.true S no)
+returns-then-not-has_word c M S =
+    let o = c.other-other.ensures in
+    let no = sym (rw (o.graph, o.first, o.second) at c.has_word.ensures) ∙ c.if-not-has_word.true in
+    passed_here (rw c.in-Some.is at (c.loop-next.invariant M S)) S no
 
 pub lacked_by_classes-requires : goal.lacked_by_classes-requires
 lacked_by_classes-requires c =
-    let l = c.loop-c in
-    let p = c.requires.pairs in
-    let S = p.shown.1 in (
+    let o = c.other-other.ensures in
+    let yes = sym (rw (o.graph, o.first, o.second) at c.has_word.ensures) ∙ c.if-not-has_word.false in
+    let S = c.requires.pairs.shown.1 in
+    let h = in_hand (rw c.in-Some.is at (c.loop-next.invariant _ S)) in (
       record {
-        pairs = p;
-        short = l.invariant.0;
-        within = in_hand_short S l.invariant.0 (in_hand (l.invariant.1 _ S) c.loop-c-test.true);
-        had = λ M S. passed_had (l.invariant.1 M S) c.loop-c-test.true S (sym c.has_word.ensures ∙ c.if-not-has_word.false);
+        pairs = c.requires.pairs;
+        within = in_hand_short S c.in-Some.w h;
+        had = λ M S. passed_had (rw c.in-Some.is at (c.loop-next.invariant M S)) S yes;
       },
-      in_hand_some l.invariant.0 (in_hand (l.invariant.1 _ S) c.loop-c-test.true),
+      in_hand_some c.in-Some.w h,
     )
 
-pub returns-then-passed-ge-WORDS_BEFORE_CLASSES : goal.returns-then-passed-ge-WORDS_BEFORE_CLASSES
-returns-then-passed-ge-WORDS_BEFORE_CLASSES c = c.lacked_by_classes.ensures
-
-pub next_word-c-requires-in-loop-c : goal.next_word-c-requires-in-loop-c
-next_word-c-requires-in-loop-c c =
+pub next_word-next-requires-in-Some-clause-within : goal.next_word-next-requires-in-Some-clause-within
+next_word-next-requires-in-Some-clause-within c =
     let S = c.requires.pairs.shown.1 in
-    let s = c.loop-c.invariant.0 in
+    in_hand_short S c.in-Some.w (in_hand (rw c.in-Some.is at (c.loop-next.invariant _ S)))
+
+pub loop-next-smaller : goal.loop-next-smaller
+loop-next-smaller c =
+    let S = c.requires.pairs.shown.1 in
+    let o = c.own-own.ensures in
+    let w = c.in-Some.w in
+    let within = in_hand_short S w (in_hand (rw c.in-Some.is at (c.loop-next.invariant _ S))) in
+    let n = c.next_word-next-in-Some in
+    rw c.in-Some.is
+    (left_falls S (pair_in c.args.p) w n.result
+    (next_shown _ c.args.a S _ w.word w.short within _ (rw (o.graph, o.first, o.second) at n.ensures)))
+
+pub loop-next-preserved : goal.loop-next-preserved
+loop-next-preserved c M S =
+    let o = c.own-own.ensures in
+    let q = c.other-other.ensures in
+    let yes = sym (rw (q.graph, q.first, q.second) at c.has_word.ensures) ∙ c.if-not-has_word.false in
+    let w = c.in-Some.w in
+    let passed = rw c.in-Some.is at (c.loop-next.invariant M S) in
+    let within = in_hand_short S w (in_hand passed) in
     record {
-      query = query_in _ c.args.a S _ _ _ c.requires.pairs.is_pair s;
-      within = in_hand_short S s (in_hand (c.loop-c.invariant.1 _ S) c.loop-c-test.true);
-      longest = longest_in S;
+      from = symbols_in w.word;
+      next = next_shown M c.args.a S _ w.word w.short within _ (rw (o.graph, o.first, o.second) at c.next_word-next-in-Some.ensures);
+      same = passed_had passed S yes;
     }
 
-pub loop-c-smaller : goal.loop-c-smaller
-loop-c-smaller c =
-    let S = c.requires.pairs.shown.1 in
-    left_falls S (pair c.args.first c.args.second) c.loop-c.c c.next_word-c-in-loop-c.result c.loop-c-test.true
-    (next_shown _ c.args.a S _ c.loop-c.c.word c.loop-c.invariant.0
-    (in_hand_short S c.loop-c.invariant.0 (in_hand (c.loop-c.invariant.1 _ S) c.loop-c-test.true)) _ c.next_word-c-in-loop-c.ensures.1)
-
-pub loop-c-preserved : goal.loop-c-preserved
-loop-c-preserved c =
-    let l = c.loop-c in (
-      c.next_word-c-in-loop-c.ensures.0,
-      λ M S. record {
-        from = symbols_in l.c.word;
-        next = next_shown M c.args.a S _ l.c.word l.invariant.0
-            (in_hand_short S l.invariant.0 (in_hand (l.invariant.1 M S) c.loop-c-test.true)) _ c.next_word-c-in-loop-c.ensures.1;
-        same = passed_had (l.invariant.1 M S) c.loop-c-test.true S (sym c.has_word.ensures ∙ c.if-not-has_word.false);
-      },
-    )
-
 pub returns : goal.returns
-returns c =
-    let l = c.loop-c in
-    (l.invariant.0, λ M S. rw (passed_end (l.invariant.1 M S) c.loop-c-test.false) c.loop-c-test.false)
+returns c M S = passed_end (rw c.in_default.is at (c.loop-next.invariant M S))

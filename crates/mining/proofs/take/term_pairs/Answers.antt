@@ -1,4 +1,5 @@
 use mathlib.Core.Path.{◌≡◌, ap, ◌∙◌}
+use Prim.Native.Nat.{◌+◌, ◌-◌, ◌<◌}
 use native.Mathlib.Omega.{arith}
 use Rattle.search.specs.declared.word.Word.{Word}
 use Rattle.search.specs.Word.{symbols_in}
@@ -10,8 +11,8 @@ use Rattle.rule_bytes.proofs.PlaceLaws.{term_room, word_fits, word_read, word_sh
 use Rattle.mining.proofs.CoverLaws.{covers_none, walked_start, walked_entry, walked_next, walked_end}
 use Rattle.mining.proofs.take.term_pairs.Goals as goal
 
-pub u16_at-left-requires : goal.u16_at-left-requires
-u16_at-left-requires c =
+pub u16_at-number-requires : goal.u16_at-number-requires
+u16_at-number-requires c =
     let w = c.requires.1 in
     term_room _ _ w.0 w.1.0 w.1.1
 
@@ -20,30 +21,31 @@ overflow_add-place c =
     let w = c.requires.1 in
     omega (arith, term_room _ _ w.0 w.1.0 w.1.1)
 
-pub loop-left-init : goal.loop-left-init
-loop-left-init c t s h =
-    walked_start c.args.at c.u16_at-left.result _ h c.u16_at-left.ensures.0
+pub loop-init : goal.loop-init
+loop-init c t s h =
+    walked_start c.args.at (c.u16_at-number.result - 0) _ h (omega (arith, c.u16_at-number.ensures.0))
     (covers_none c.args.a c.full_row-row.result c.requires.0 c.full_row-row.ensures)
 
 pub read_word-r-requires : goal.read_word-r-requires
 read_word-r-requires c =
     let w = c.requires.1 in
-    let n = walked_entry (c.loop-left.invariant w.0 w.1.0 w.1.1) c.loop-left-test.true in
+    let n = walked_entry (c.loop.invariant w.0 w.1.0 w.1.1) (omega (arith, c.loop-test.true)) in
     word_fits _ _ n.first _ n.bytes n.fits
 
-pub walk_pairs-requires : goal.walk_pairs-requires
-walk_pairs-requires c =
+pub invariant_of-word : goal.invariant_of-word
+invariant_of-word c =
     let w = c.requires.1 in
-    let n = walked_entry (c.loop-left.invariant w.0 w.1.0 w.1.1) c.loop-left-test.true in
-    let e : c.read_word-r.result.word ≡ word_of n.first =
-    word_read _ _ n.first _ n.bytes c.read_word-r.ensures in
-    (c.requires.0, rw e (word_short n.first n.fits))
+    let n = walked_entry (c.loop.invariant w.0 w.1.0 w.1.1) (omega (arith, c.loop-test.true)) in
+    let e : c.read_word-r.result.word ≡ word_of n.first = word_read _ _ n.first _ n.bytes c.read_word-r.ensures in
+    record { short = rw e (word_short n.first n.fits) }
 
-pub loop-left-preserved : goal.loop-left-preserved
-loop-left-preserved c t s h =
+pub loop-preserved : goal.loop-preserved
+loop-preserved c t s h =
     let a = c.args.a in
-    let f = c.loop-left.invariant t s h in
-    let taken = c.loop-left-test.true in
+    let f = c.loop.invariant t s h in
+    let number = c.u16_at-number.result in
+    let taken : 0 < number - c.loop.counter = omega (arith, c.loop-test.true) in
+    let left : (number - c.loop.counter) - 1 ≡ number - (c.loop.counter + 1) = omega arith in
     let n = walked_entry f taken in
     let e : c.read_word-r.result.word ≡ word_of n.first =
     word_read _ _ n.first _ n.bytes c.read_word-r.ensures in
@@ -51,7 +53,7 @@ loop-left-preserved c t s h =
     let next = ap (λ (r : WordRead). r.next) c.read_word-r.ensures in
     let walked = c.walk_pairs in
     let covers : CoversPairs a.parties a.graph n.first walked.result = rw (← read) walked.ensures in
-    rw next (walked_next f taken walked.result c.common-row.result covers c.common-row.ensures)
+    rw (next, ← left) (walked_next f taken walked.result c.common-row.result covers c.common-row.ensures)
 
 pub returns : goal.returns
-returns c t s h = walked_end (c.loop-left.invariant t s h) (omega (arith, c.loop-left-test.false))
+returns c t s h = walked_end (c.loop.invariant t s h) (omega (arith, c.loop-test.false))

@@ -6,28 +6,22 @@ use Rattle.report.proofs.LineLaws.{convertible_length}
 use Rattle.report.proofs.line.convertible_line.Goals as goal
 
 pub put_bytes-word-requires : goal.put_bytes-word-requires
-put_bytes-word-requires c = let s = c.before.before.before in omega (arith, s.requires, convertible_length s.args.k)
+put_bytes-word-requires c = omega (arith, c.requires, convertible_length c.args.k)
 
 pub put_decimal-end-requires : goal.put_decimal-end-requires
 put_decimal-end-requires c =
-    let s = c.before.before.before.before.before.before.before in
-    let l = convertible_length s.args.k in
+    let l = convertible_length c.args.k in
     let w = c.put_bytes-word.ensures in
-    omega (arith, s.requires, w.place, wrote_length w (omega (arith, s.requires)))
+    omega (arith, c.requires, w.place, wrote_length w (omega (arith, c.requires)))
 
 pub put_bytes-requires : goal.put_bytes-requires
 put_bytes-requires c =
-    let s = c.before.before.before.before.before.before.before.before.before.before.before.before in
-    let l = convertible_length s.args.k in
+    let l = convertible_length c.args.k in
     let w = c.put_bytes-word.ensures in
-    let n = wrote_length w (omega (arith, s.requires)) in
+    let n = wrote_length w (omega (arith, c.requires)) in
     let v = c.put_decimal-end.ensures in
-    omega (arith, s.requires, w.place, v.place, wrote_length v (omega (arith, s.requires, w.place)))
+    omega (arith, c.requires, w.place, v.place, wrote_length v (omega (arith, c.requires, w.place)))
 
 pub returns : goal.returns
 unfolding verdict_line
-returns c =
-    let second = c.before.before.before.before.before.before.before in
-    let first = second.before.before.before.before in
-    wrote_three first.put_bytes-word.ensures second.put_decimal-end.ensures c.put_bytes.ensures
-    (omega (arith, first.requires))
+returns c = wrote_three c.put_bytes-word.ensures c.put_decimal-end.ensures c.put_bytes.ensures (omega (arith, c.requires))

@@ -1,14 +1,12 @@
 -- The word, then one byte or three.
-use lib.ListN.{length-append, length-take, length, length-set}
-use Prim.Native.Nat.{ℕ, ◌+◌, ◌*◌, ◌≤◌}
+use Rattle.std.proofs.Common.{◌≡◌, ap, ◌∙◌, ℕ, ◌+◌, ◌-◌, ◌*◌, ◌≤◌, List, length, arith}
+use lib.ListN.{length-take}
 use Rattle.search.specs.Word.{symbols_in}
 use Rattle.search.specs.declared.word.Word.{Word}
 use Rattle.fields.specs.promises.Writing.{put}
-use Rattle.fields.proofs.PutLaws.{put_length, then_one, then_three}
-use mathlib.Core.Path.{◌≡◌, ap, ◌∙◌}
-use mathlib.Core.List.{List}
-use native.Mathlib.Omega.{arith}
-use Rattle.rule_text.specs.Text.{word_text, line_end, ampersand}
+use Rattle.fields.proofs.PutLaws.{put_length, then_one, then_put}
+use Rattle.rule_bytes.proofs.CopyLaws.{mid_put}
+use Rattle.rule_text.specs.Text.{word_text, ampersand}
 use Rattle.rule_text.proofs.TextLaws.{word_length}
 use Rattle.rule_text.proofs.text.put_entry_text.Goals as goal
 
@@ -34,68 +32,32 @@ overflow_add-result c =
     let e = ends _ _ c.args.w _ _ r.ensures.bytes r.ensures.place c.requires.1 in
     omega (arith, e.0, e.1)
 
-pub shape_of-out-then-last : goal.shape_of-out-then-last
-shape_of-out-then-last c =
-    let r = c.put_word_text-end in
-    let e = ends _ _ c.args.w _ _ r.ensures.bytes r.ensures.place c.requires.1 in
-    length-set r.new.out _ _ ∙ e.1
-
-pub returns-then-last : goal.returns-then-last
-returns-then-last c =
+pub returns-then-last-clause-bytes : goal.returns-then-last-clause-bytes
+returns-then-last-clause-bytes c =
     let a = c.args in
     let r = c.put_word_text-end in
-    let e = ends _ _ c.args.w _ _ r.ensures.bytes r.ensures.place c.requires.1 in
-    let t : List ℕ = word_text (symbols_in a.w) in
-    let written = then_one a.out.now a.at t _ _ r.ensures.bytes r.ensures.place 10 (omega (arith, e.0)) in
-    record { bytes = rw c.if-last.true written; place = rw c.if-last.true (omega (arith, r.ensures.place, length-append t line_end)) }
+    let e = ends _ _ a.w _ _ r.ensures.bytes r.ensures.place c.requires.1 in
+    rw c.if-last.true (then_one a.out.now a.at (word_text (symbols_in a.w)) _ _ r.ensures.bytes r.ensures.place 10 (omega (arith, e.0)))
 
-pub bounds-out-end-2 : goal.bounds-out-end-2
-bounds-out-end-2 c =
+pub overflow_add-end : goal.overflow_add-end
+overflow_add-end c =
     let r = c.put_word_text-end in
     let e = ends _ _ c.args.w _ _ r.ensures.bytes r.ensures.place c.requires.1 in
     omega (arith, e.0, e.1)
 
-pub overflow_add-out : goal.overflow_add-out
-overflow_add-out c =
+pub slice_bounds-copy_from_slice-end : goal.slice_bounds-copy_from_slice-end
+slice_bounds-copy_from_slice-end c =
     let r = c.put_word_text-end in
     let e = ends _ _ c.args.w _ _ r.ensures.bytes r.ensures.place c.requires.1 in
     omega (arith, e.0, e.1)
 
-pub bounds-out-end-3 : goal.bounds-out-end-3
-bounds-out-end-3 c =
-    let r = c.put_word_text-end in
-    let e = ends _ _ c.args.w _ _ r.ensures.bytes r.ensures.place c.requires.1 in
-    simp length-set (omega (arith, e.0, e.1))
-
-pub overflow_add-out-2 : goal.overflow_add-out-2
-overflow_add-out-2 c =
-    let r = c.put_word_text-end in
-    let e = ends _ _ c.args.w _ _ r.ensures.bytes r.ensures.place c.requires.1 in
-    omega (arith, e.0, e.1)
-
-pub bounds-out-end-4 : goal.bounds-out-end-4
-bounds-out-end-4 c =
-    let r = c.put_word_text-end in
-    let e = ends _ _ c.args.w _ _ r.ensures.bytes r.ensures.place c.requires.1 in
-    simp length-set (omega (arith, e.0, e.1))
-
-pub overflow_add-result-2 : goal.overflow_add-result-2
-overflow_add-result-2 c =
-    let r = c.put_word_text-end in
-    let e = ends _ _ c.args.w _ _ r.ensures.bytes r.ensures.place c.requires.1 in
-    omega (arith, e.0, e.1)
-
-pub shape_of-out : goal.shape_of-out
-shape_of-out c =
-    let r = c.put_word_text-end in
-    let e = ends _ _ c.args.w _ _ r.ensures.bytes r.ensures.place c.requires.1 in
-    simp length-set e.1
-
-pub returns : goal.returns
-returns c =
+pub returns-clause-bytes : goal.returns-clause-bytes
+returns-clause-bytes c =
     let a = c.args in
     let r = c.put_word_text-end in
-    let e = ends _ _ c.args.w _ _ r.ensures.bytes r.ensures.place c.requires.1 in
-    let t : List ℕ = word_text (symbols_in a.w) in
-    let written = then_three a.out.now a.at t _ _ r.ensures.bytes r.ensures.place 32 38 32 (omega (arith, e.0)) in
-    record { bytes = rw c.if-last.false written; place = rw c.if-last.false (omega (arith, r.ensures.place, length-append t ampersand)) }
+    let e = ends _ _ a.w _ _ r.ensures.bytes r.ensures.place c.requires.1 in
+    let k : length c.copy_from_slice.new.self ≡ r.result + 3 - r.result = ap length c.copy_from_slice.ensures.after ∙ omega arith in
+    rw c.if-last.false
+    (mid_put r.new.out r.result _ _ k
+    ∙ ap (put r.new.out r.result) c.copy_from_slice.ensures.after
+    ∙ then_put a.out.now a.at (word_text (symbols_in a.w)) _ _ r.ensures.bytes r.ensures.place ampersand (omega arith))

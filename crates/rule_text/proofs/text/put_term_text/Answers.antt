@@ -1,3 +1,4 @@
+-- The next word is the first of those ahead, and its text follows what was written.
 use mathlib.Core.Path.{◌≡◌, refl, ap, ◌∙◌}
 use native.Mathlib.Omega.{arith}
 use lib.ListN.{length}
@@ -10,8 +11,8 @@ use Rattle.rule_text.proofs.TextLaws.{term_text_start, word_entry, entry_room, t
 use borrow.Author.Rules.{rules}
 use Rattle.rule_text.proofs.text.put_term_text.Goals as goal
 
-pub u16_at-left-requires : goal.u16_at-left-requires
-u16_at-left-requires c =
+pub u16_at-number-requires : goal.u16_at-number-requires
+u16_at-number-requires c =
     let w = c.requires.0 in
     term_room _ _ w.0 w.1.0 w.1.1
 
@@ -20,33 +21,33 @@ overflow_add-place c =
     let w = c.requires.0 in
     omega (arith, term_room _ _ w.0 w.1.0 w.1.1)
 
-pub loop-left-init : goal.loop-left-init
-loop-left-init c = (refl, λ t s h. term_text_start h c.u16_at-left.ensures.0 c.requires.1)
+pub loop-i-init : goal.loop-i-init
+loop-i-init c = (refl, λ t s h. term_text_start h c.u16_at-number.ensures.0 c.requires.1)
 
 pub read_word-r-requires : goal.read_word-r-requires
 read_word-r-requires c =
     let w = c.requires.0 in
-    let n = word_entry (c.loop-left.invariant.1 w.0 w.1.0 w.1.1) c.loop-left-test.true in
+    let n = word_entry (c.loop-i.invariant.1 w.0 w.1.0 w.1.1) c.loop-i-test.true in
     word_fits _ _ n.first _ n.bytes n.fits
 
 pub put_entry_text-end-requires : goal.put_entry_text-end-requires
 put_entry_text-end-requires c =
     let w = c.requires.0 in
-    let f = c.loop-left.invariant.1 w.0 w.1.0 w.1.1 in
-    let taken = c.loop-left-test.true in
+    let f = c.loop-i.invariant.1 w.0 w.1.0 w.1.1 in
+    let taken = c.loop-i-test.true in
     let n = word_entry f taken in
     let k : c.read_word-r.result.word.len ≡ length n.first =
     ap (λ (v : Word). v.len) (word_read _ _ n.first _ n.bytes c.read_word-r.ensures) in
     (omega (arith, k, n.fits.len), omega (arith, k, entry_room f taken))
 
-pub loop-left-preserved : goal.loop-left-preserved
-loop-left-preserved c =
+pub loop-i-preserved : goal.loop-i-preserved
+loop-i-preserved c =
     let e = c.put_entry_text-end.ensures in
     let z = ap (λ (r : WordRead). r.next) c.read_word-r.ensures in (
       search rules,
       λ t s h.
-          let f = c.loop-left.invariant.1 t s h in
-          let taken = c.loop-left-test.true in
+          let f = c.loop-i.invariant.1 t s h in
+          let taken = c.loop-i-test.true in
           let n = word_entry f taken in
           let k : symbols_in c.read_word-r.result.word ≡ n.first =
           ap symbols_in (word_read _ _ n.first _ n.bytes c.read_word-r.ensures) ∙ word_symbols n.first in
@@ -54,4 +55,4 @@ loop-left-preserved c =
     )
 
 pub returns : goal.returns
-returns c = λ t s h. term_text_end (c.loop-left.invariant.1 t s h) (omega (arith, c.loop-left-test.false))
+returns c = λ t s h. term_text_end (c.loop-i.invariant.1 t s h) (omega arith)

@@ -1,3 +1,4 @@
+-- One symbol's text more, with room for those left; after the last none is left.
 use lib.Dec.{eqb}
 use Rattle.lists.specs.Lists.{pick}
 use lib.Seq.{length-take-le}
@@ -14,7 +15,7 @@ use borrow.Author.Rules.{rules}
 use Rattle.rule_text.proofs.text.put_word_text.Goals as goal
 
 pub loop-i-init : goal.loop-i-init
-loop-i-init c = record { inside = omega arith; kept = refl; room = omega arith; text = text_start }
+loop-i-init c = record { kept = refl; room = omega arith; text = text_start }
 
 pub loop-i-preserved : goal.loop-i-preserved
 loop-i-preserved c =
@@ -29,7 +30,6 @@ loop-i-preserved c =
     let k : length r.new.out ≡ length l.out = ap length r.ensures.bytes ∙ put_length l.out l.end piece (omega arith) in
     let step = word_step w.len w.symbols l.i (omega arith) (omega arith) in
     record {
-      inside = omega arith;
       kept = k ∙ l.invariant.kept;
       room = omega (arith, r.ensures.place);
       text = text_next l.invariant.text _ piece (omega arith) step r.ensures.bytes r.ensures.place;

@@ -1,7 +1,6 @@
 -- Each step has its law (PermitLaws).
-use mathlib.Core.Path.{sym, ap, ◌∙◌}
+use mathlib.Core.Path.{sym, ◌∙◌}
 use native.Mathlib.Omega.{arith}
-use Rattle.rules.specs.Permit.{yes_or_no}
 use Rattle.rules.proofs.PermitLaws.{no_pair, no_list, checked_list, the_answer}
 use Rattle.graph.proofs.LegalLaws.{pair_of}
 use Rattle.rules.proofs.call.permit_in.Goals as goal
@@ -20,26 +19,17 @@ returns-then-not-check_list c =
     let p = sym c.is_pair.ensures ∙ c.if-not-is_pair.false in
     sym (no_list M _ h _ _ _ p (sym c.check_list.ensures ∙ c.if-not-check_list.true))
 
+pub invariant_of-q-2 : goal.invariant_of-q-2
+invariant_of-q-2 c = record { is_pair = pair_of _ _ _ (sym c.is_pair.ensures ∙ c.if-not-is_pair.false) }
+
 pub meets_list-requires : goal.meets_list-requires
 meets_list-requires c =
     let w = c.requires in
-    let p = sym c.is_pair.ensures ∙ c.if-not-is_pair.false in
-    record {
-      parties = omega (arith, w.1.parties, w.1.limits.parties.1);
-      is_pair = pair_of _ _ _ p;
-      list = checked_list w.0 _ w.1 _ (λ i. omega (arith, c.type_inv.list i)) (sym c.check_list.ensures ∙ c.if-not-check_list.false);
-    }
+    checked_list w.0 _ w.1 _ (λ i. omega (arith, c.type_inv.list i)) (sym c.check_list.ensures ∙ c.if-not-check_list.false)
 
-pub returns-then-meets_list : goal.returns-then-meets_list
-returns-then-meets_list c =
+pub returns : goal.returns
+returns c =
     λ M h.
     let p = sym c.is_pair.ensures ∙ c.if-not-is_pair.false in
     let l = sym c.check_list.ensures ∙ c.if-not-check_list.false in
-    sym (the_answer M _ h _ _ _ p (λ i. omega (arith, c.type_inv.list i)) l _ c.meets_list.ensures ∙ ap yes_or_no c.if-meets_list.true)
-
-pub returns-else-meets_list : goal.returns-else-meets_list
-returns-else-meets_list c =
-    λ M h.
-    let p = sym c.is_pair.ensures ∙ c.if-not-is_pair.false in
-    let l = sym c.check_list.ensures ∙ c.if-not-check_list.false in
-    sym (the_answer M _ h _ _ _ p (λ i. omega (arith, c.type_inv.list i)) l _ c.meets_list.ensures ∙ ap yes_or_no c.if-meets_list.false)
+    sym (the_answer M _ h _ _ _ p (λ i. omega (arith, c.type_inv.list i)) l _ c.meets_list.ensures)

@@ -5,21 +5,18 @@ use mathlib.Core.Logic.{by_cases}
 use Rattle.word_test.proofs.TestLaws.{test_no, test_yes, test_long}
 use Rattle.word_test.proofs.test.has_word.Goals as goal
 
-pub returns-then-n-w : goal.returns-then-n-w
-returns-then-n-w c =
-    let x = c.before.before in
-    sym (test_long x.requires x.args.g c.if-n-w.true)
+pub returns-then-q-w : goal.returns-then-q-w
+returns-then-q-w c = sym (test_long c.args.q.now c.args.w c.if-q-w.true)
 
-pub search_back-f-requires : goal.search_back-f-requires
-search_back-f-requires c =
-    let p = c.requires in
-    (p, omega arith, p.short.len)
+pub search_back-f-requires-clause-fits : goal.search_back-f-requires-clause-fits
+search_back-f-requires-clause-fits c = c.args.w.short.len
 
 pub returns : goal.returns
 returns c =
-    let x = c.before.before.before.before in
+    let q = c.args.q.now in
+    let w = c.args.w in
     let count = c.search_back-f.ensures.count in
     let k : ℕ = c.search_back-f.result.count in
     by_cases (ℕ_discrete k 0)
-    (λ z. le-ltb 0 k (omega (arith, z)) ∙ sym (test_no x.requires x.args.g count z))
-    (λ z. lt-ltb 0 k (omega (arith, z)) ∙ sym (test_yes x.requires x.args.g count z))
+    (λ z. le-ltb 0 k (omega (arith, z)) ∙ sym (test_no q w count z))
+    (λ z. lt-ltb 0 k (omega (arith, z)) ∙ sym (test_yes q w count z))

@@ -1,12 +1,7 @@
--- The symbol tried rises by one each turn, until the search succeeds with it (NextLaws).
--- Invariant: the symbol at the place is from the floor on and not above the least one. Measure: the symbols left above it, of 32.
-use Prim.Native.Nat.{◌-◌}
-use lib.ListN.{get_or}
+-- A symbol is tried at the place after another, until the search succeeds with one (NextLaws).
+-- Invariant: the symbol to be tried is from the floor on and not above the least one.
 use Rattle.words.proofs.NextLaws.{LeastTurn}
 use Rattle.words.proofs.next.least_symbol.Given as goal
 
-abbrev pub invariant-loop-g : goal.invariant-loop-g
-invariant-loop-g l = LeastTurn l.n l.g l.first l.second l.initial.t l.at l.t
-
-abbrev pub decreases-loop-g : goal.decreases-loop-g
-decreases-loop-g l = 32 - get_or l.t.symbols l.at 0
+abbrev pub invariant-loop-s : goal.invariant-loop-s
+invariant-loop-s l = LeastTurn l.q l.w.word l.at l.s

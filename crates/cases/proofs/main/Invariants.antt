@@ -1,5 +1,0 @@
--- Measure: the turns left.
-use Rattle.cases.proofs.main.Given as goal
-
-abbrev pub decreases-loop-turns : goal.decreases-loop-turns
-decreases-loop-turns l = l.turns

@@ -1,9 +1,0 @@
--- Invariant: the bound. Measure: the classes left.
-use Prim.Native.Nat.{◌-◌, ◌≤◌}
-use Rattle.letters.proofs.different.listed.Given as goal
-
-abbrev pub invariant-loop-i : goal.invariant-loop-i
-invariant-loop-i l = l.i ≤ l.count
-
-abbrev pub decreases-loop-i : goal.decreases-loop-i
-decreases-loop-i l = l.count - l.i

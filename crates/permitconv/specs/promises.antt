@@ -1,3 +1,0 @@
--- What functions promise each other; no contract of a call rests on these definitions.
-pub mod Input
-pub mod Word
