@@ -11,6 +11,7 @@ use std::io;
 use std::io::{Read, Write};
 
 // The word of a frame: its length, then 31 symbols.
+// Kept: no `From` can stand here, since both types are of other crates.
 pub fn word_of(given: &[u8; 32]) -> Word {
     let mut symbols = [0u8; WORD_CAPACITY];
     symbols.copy_from_slice(&given[1..]);

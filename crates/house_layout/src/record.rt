@@ -30,6 +30,7 @@ pub struct Record {
 
 // The owner that the record at a place says.
 #[tactic(auto, unfolding(crate::specs::Layout::owner_in, crate::specs::Layout::record_size))]
+// Kept: an edition is a number of the header, as in `record_size`.
 fn read_owner(file: &[u8], edition: usize, at: usize) -> Option<usize>
     requires { at + record_size edition ≤ length file.now }
     ensures { result ≡ owner_in edition (byte_at file.now (at + 4)) }
@@ -55,6 +56,7 @@ pub fn read_record(file: &[u8], h: Header, r: usize) -> Record
 }
 
 // The place of a kind in a mask of kinds.
+// Kept: a conversion that asks something of its argument is a function.
 pub fn bit_of(kind: usize) -> u32
     requires { kind < 256 }
     ensures { result ≡ bit_of kind }

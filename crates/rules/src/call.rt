@@ -14,6 +14,7 @@ use search::{Graph, PairIn, ShortWord};
 use word_test::has_word;
 
 // Whether the pair meets a term, and the place after the term.
+// Kept: both values mean something in every case, so no Option or Result says more.
 #[derive(Clone, Copy)]
 pub struct TermMet {
     pub met: bool,
