@@ -1,10 +1,6 @@
 -- The canonical file of a matter in limits is accepted, in either edition: it is well formed, statement by statement. Assumes nothing.
-use Rattle.std.specs.Prelude.{Ok}
-use mathlib.Core.Path.{◌≡◌, sym, ap, ◌∙◌}
+use Rattle.std.proofs.Common.{Ok, ◌≡◌, sym, ap, ◌∙◌, ℕ, suc, ◌≤◌, ◌<◌, arith, length, get_or}
 use mathlib.Core.List.{Memᴰ}
-use Prim.Native.Nat.{ℕ, suc, ◌≤◌, ◌<◌}
-use native.Mathlib.Omega.{arith}
-use lib.ListN.{length, get_or}
 use Rattle.lists.proofs.Distinct.{get_or_in, distinct_places}
 use Rattle.lists.proofs.OrderLaws.{up_distinct}
 use Rattle.rebac.specs.Matter.{Matter}

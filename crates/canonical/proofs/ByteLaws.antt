@@ -1,11 +1,9 @@
 -- The canonical file of a matter in limits is made of bytes: its numbers are small, and two-byte fields are below 65,536. Assumes nothing.
-use mathlib.Core.Logic.{by_cases}
+use Rattle.std.proofs.Math.Logic.{by_cases}
 use mathlib.Core.List.Memᴰ
-use mathlib.Core.List.{List, [], ◌∷◌, ◌++◌, Memᴰ}
-use Prim.Native.Nat.{ℕ, suc, ◌/◌, ◌%◌, ◌≤◌, ◌<◌}
-use native.Mathlib.Omega.{arith}
-use native.Mathlib.Decide.{dec_lt}
-use lib.Dec.{eqb}
+use Rattle.std.proofs.Common.{List, [], ◌∷◌, ◌++◌, ℕ, suc, ◌/◌, ◌%◌, ◌≤◌, ◌<◌, arith, eqb}
+use mathlib.Core.List.{Memᴰ}
+use Rattle.std.proofs.Math.Decide.{dec_lt}
 use Rattle.lists.specs.Lists.{flat_map, range}
 use Rattle.lists.proofs.Cases.{by_test, by_mem, by_append}
 use Rattle.lists.proofs.ListLaws.{flat_out, range_out}

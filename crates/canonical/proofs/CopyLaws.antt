@@ -1,16 +1,8 @@
 -- The copy of an accepted file, and the call that writes it: its matter gives back what was written, so equal copies mean equal matter and
 -- a copy's copy is the copy. Assumes nothing.
-use Rattle.std.specs.Prelude.{Ok, Err, Result}
-use mathlib.Core.Path.{◌≡◌, sym, ap, ◌∙◌}
-use mathlib.Core.Logic.{◌↔◌, ◌⊎◌, inl, inr, by_cases}
-use mathlib.Core.Bool.{true}
-use mathlib.Core.List.{List}
-use Prim.Native.Nat.{ℕ, ◌≤◌, ◌<◌}
-use native.Mathlib.Omega.{arith}
-use native.Mathlib.Decide.{dec_lt}
-use lib.Dec.{leb}
-use Rattle.std.specs.Prelude.{Result, Ok, Err}
-use lib.ListN.{length}
+use Rattle.std.proofs.Common.{Ok, Err, Result, ◌≡◌, sym, ap, ◌∙◌, ◌↔◌, ◌⊎◌, inl, inr, true, List, ℕ, ◌≤◌, ◌<◌, arith, leb, length}
+use Rattle.std.proofs.Math.Logic.{by_cases}
+use Rattle.std.proofs.Math.Decide.{dec_lt}
 use Rattle.lists.proofs.Cases.{by_test, clash}
 use Rattle.lists.proofs.Distinct.{distinct_equal}
 use Rattle.rebac.specs.Matter.{Matter}

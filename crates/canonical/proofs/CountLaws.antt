@@ -1,16 +1,17 @@
 -- How many records there are: kinds place by place, entries target by target, parties one after
 -- another. Each count grows by the piece at its place. Assumes nothing.
-use mathlib.Core.Path.{◌≡◌, refl, sym, ap, ◌∙◌}
-use mathlib.Core.Bool.{Bool, true, false}
-use mathlib.Core.List.{List, [], ◌∷◌, ◌++◌, map}
-use mathlib.Core.Logic.{by_cases}
-use Prim.Native.Nat.{ℕ, suc, ◌+◌, ◌≤◌, ◌<◌}
-use native.Mathlib.Decide.{dec_lt}
-use native.Mathlib.Numerals.{add-one}
-use native.Mathlib.Omega.{arith}
-use lib.Dec.{eqb}
-use lib.ListN.{length, get_or, take, drop, set, length-append, take-append-drop, get_or-append}
-use lib.Seq.{take_all, get_or_at, get_or-set_same, get_or-set_other}
+use Rattle.std.proofs.Common.{◌≡◌, refl, sym, ap, ◌∙◌, Bool, true, false, List, [], ◌∷◌, ◌++◌, map, ℕ, suc}
+use Rattle.std.proofs.Common.{◌+◌, ◌*◌, ◌≤◌, ◌<◌, add-one, arith, eqb, length, get_or, take, drop, set, length-append}
+use Rattle.std.proofs.Common.{take-append-drop, take_all, get_or-set_same, get_or-set_other}
+use Rattle.std.proofs.Common.{cond, zero, zero-add, Option, Some}
+use Rattle.std.specs.Option.{unwrap_or, option_map}
+use Rattle.std.proofs.lemmas.List.{ext_get_or}
+use Rattle.std.specs.List.{count_by, sum_by}
+use Rattle.std.proofs.lemmas.List.Sums.{sum_by-cons}
+use Rattle.std.proofs.Math.Logic.{by_cases}
+use Rattle.std.proofs.Math.Decide.{dec_lt}
+use Rattle.std.proofs.Math.ListN.{get_or-append}
+use Rattle.std.proofs.Math.Seq.{get_or_at}
 use Rattle.lists.specs.Lists.{filter_by, flat_map, up_from, range}
 use Rattle.lists.proofs.Cases.{by_test}
 use Rattle.lists.proofs.Distinct.{get_or_in}
@@ -24,9 +25,9 @@ use Rattle.masks.specs.declared.Row.{Row}
 use Rattle.masks.specs.declared.Table.{Table}
 use Rattle.rebac.specs.Matter.{Matter}
 use Rattle.house_layout.specs.Layout.{permit_kind}
-use Rattle.house_layout.specs.Fields.{legal_kind}
 use Rattle.house_layout.specs.promises.Kinds.{bit_of}
 use Rattle.house_layout.specs.declared.header.Header.{Header}
+use Rattle.house_layout.proofs.RecordLaws.{bit_small}
 use Rattle.canonical.specs.Canonical.{Entry, entry, kind_bytes, says_kind, pair_entries, entries_of, entries_below, first_of}
 use Rattle.canonical.specs.promises.Masks.{matter_in, kinds_in}
 use Rattle.canonical.proofs.EntryLaws.{kinds_number, listed_kind_lem}
@@ -45,9 +46,32 @@ pub kind_permit : (labels : ℕ) → get_or (kind_bytes labels) labels 0 ≡ per
 unfolding kind_bytes range
 kind_permit labels = get_or_at (up_from 0 labels) permit_kind [] 0 labels (up_length 0 labels)
 
--- every kind in order is legal
-pub kind_of_place : (labels place : ℕ) → place ≤ labels → legal_kind labels (get_or (kind_bytes labels) place 0) ≡ true
-kind_of_place labels place h = listed_kind_lem labels _ (get_or_in (kind_bytes labels) place 0 (omega (arith, kinds_number labels)))
+-- every kind in order is legal, so that its place in a mask is one
+pub place_small : (labels place : ℕ) → labels ≤ 8 → place ≤ labels → bit_of (get_or (kind_bytes labels) place 0) < 32
+place_small labels place few h =
+    bit_small labels few _ (listed_kind_lem labels _ (get_or_in (kind_bytes labels) place 0 (omega (arith, kinds_number labels))))
+
+-- a run's items count up from 0, where each place reads as its number
+pub counts_up : (vs : List ℕ) (at : ℕ → Option ℕ) (len : ℕ) → len ≡ length vs
+    → ((k d : ℕ) → k < len → option_map (λ y. y) (at k) ≡ Some (get_or vs k d))
+    → ((k : ℕ) → k < len → option_map (λ y. y) (at k) ≡ Some (0 + k)) → (i : ℕ) → i < length vs → get_or vs i 0 ≡ i
+counts_up vs at len n reads places i l =
+    ap (λ (o : Option ℕ). unwrap_or o 0) (sym (reads i 0 (omega arith)) ∙ places i (omega arith)) ∙ zero-add i
+
+-- as many pass as there are elements whose places pass
+counted : (p q : ℕ → Bool) (ks l : List ℕ) → length ks ≡ length l → ((i : ℕ) → i < length l → p (get_or ks i 0) ≡ q (get_or l i 0))
+    → count_by p ks ≡ length (filter_by q l)
+unfolding filter_by
+counted p q [] [] n h = refl
+counted p q [] (x ∷ xs) n h = absurd (omega arith)
+counted p q (k ∷ ks) [] n h = absurd (omega arith)
+counted p q (k ∷ ks) (x ∷ xs) n h =
+    let e : p k ≡ q x = h 0 (omega arith) in
+    let more = counted p q ks xs (omega arith) (λ i l. h (suc i) (omega arith)) in
+    let one = sum_by-cons (λ y. cond (p y) 1 0) k ks in
+    by_test (q x)
+    (λ t. let g = ap (λ (b : Bool). cond {A = ℕ} b 1 0) (e ∙ t) in rw (t, filter_by) (omega (arith, one, g, more)))
+    (λ t. let g = ap (λ (b : Bool). cond {A = ℕ} b 1 0) (e ∙ t) in rw (t, filter_by) (omega (arith, one, g, more)))
 
 -- the kinds of a mask at the places below one
 unfoldable pub kinds_to : ℕ → ℕ → ℕ → List ℕ
@@ -73,6 +97,16 @@ module _ (labels mask : ℕ) where
         → kinds_to labels mask (place + 1) ≡ kinds_to labels mask place
     unfolding kinds_to
     kinds_same t = filter_take_out (λ k. test_bit mask (bit_of k)) (kind_bytes labels) place 0 (omega (arith, kinds_number labels)) t
+
+  -- they are counted by a test of each place's kind
+  pub kinds_count : (ks : List ℕ) → length ks ≡ labels + 1 → ((i : ℕ) → i < length ks → get_or ks i 0 ≡ i)
+      → count_by (λ place. test_bit mask (bit_of (get_or (kind_bytes labels) place 0))) ks ≡ length (kinds_in labels mask)
+  unfolding kinds_in
+  kinds_count ks n h =
+      let q : ℕ → Bool = λ k. test_bit mask (bit_of k) in
+      let p : ℕ → Bool = λ place. q (get_or (kind_bytes labels) place 0) in
+      counted p q ks (kind_bytes labels) (omega (arith, kinds_number labels))
+      (λ i l. ap p (h i (omega (arith, n, kinds_number labels))))
 
   -- no more than there are kinds
   pub kinds_bounded : length (kinds_in labels mask) ≤ labels + 1
@@ -105,6 +139,12 @@ module _ (h : Header) (k : Table) (u v : ℕ) where
   unfolding pair_entries kinds_in
   pair_kinds = ap (map (entry u v)) (filter_same (says_kind (matter_in h k) u v) _ (kind_bytes h.labels) (λ b m. says_mask b))
 
+-- as many elements as the lists have, where g says how many each has
+flat_count : (g : ℕ → ℕ) (f : ℕ → List Entry) → ((v : ℕ) → g v ≡ length (f v)) → (vs : List ℕ) → sum_by g vs ≡ length (flat_map f vs)
+unfolding flat_map
+flat_count g f h [] = refl
+flat_count g f h (v ∷ vs) = omega (arith, sum_by-cons g v vs, h v, flat_count g f h vs, length-append (f v) (flat_map f vs))
+
 -- a party's entries for the targets below v, by its row of masks
 unfoldable pub row_to : ℕ → Row → ℕ → ℕ → List Entry
 row_to labels row u v = flat_map (λ x. map (entry u x) (kinds_in labels (mask_in row x))) (range v)
@@ -123,6 +163,24 @@ module _ (labels : ℕ) (row : Row) (u : ℕ) where
       ap length (row_more v)
       ∙ length-append (row_to labels row u v) (map (entry u v) (kinds_in labels (mask_in row v)))
       ∙ ap (λ (k : ℕ). length (row_to labels row u v) + k) (length_map (entry u v) (kinds_in labels (mask_in row v)))
+
+  -- they are counted target by target
+  pub row_count : (vs : List ℕ) → ((i : ℕ) → i < length vs → get_or vs i 0 ≡ i)
+      → sum_by (λ v. length (kinds_in labels (mask_in row v))) vs ≡ length (row_to labels row u (length vs))
+  unfolding row_to range
+  row_count vs h =
+      let f : ℕ → List Entry = λ x. map (entry u x) (kinds_in labels (mask_in row x)) in
+      let e : vs ≡ up_from 0 (length vs) =
+      ext_get_or 0 vs (up_from 0 (length vs)) (sym (up_length 0 (length vs)))
+      (λ i l. h i l ∙ sym (zero-add i) ∙ sym (up_at 0 (length vs) i 0 l)) in
+      flat_count (λ v. length (kinds_in labels (mask_in row v))) f (λ v. sym (length_map (entry u v) (kinds_in labels (mask_in row v)))) vs
+      ∙ ap (λ (l : List ℕ). length (flat_map f l)) e
+
+  -- a pair has at most nine
+  pub row_bounded : labels ≤ 8 → (v : ℕ) → length (row_to labels row u v) ≤ 9 * v
+  row_bounded few zero = omega (arith, ap length row_none)
+  row_bounded few (suc v) =
+      omega (arith, ap (λ (k : ℕ). length (row_to labels row u k)) (add-one v), row_step v, kinds_bounded labels (mask_in row v), row_bounded few v)
 
   row_most : (v n : ℕ) → v ≤ n → length (row_to labels row u v) ≤ length (row_to labels row u n)
   unfolding row_to

@@ -1,9 +1,6 @@
 -- What an accepted file's decoded form holds stands for its matter: its kinds are those recorded. And how the writer's
 -- call opens, as `CallLaws` of graph says it of a call that loads. Assumes nothing.
-use Rattle.std.specs.Prelude.{Ok}
-use mathlib.Core.Path.{◌≡◌, sym, ap, ◌∙◌}
-use mathlib.Core.List.{List}
-use Prim.Native.Nat.{ℕ}
+use Rattle.std.proofs.Common.{Ok, ◌≡◌, sym, ap, ◌∙◌, List, ℕ}
 use Rattle.house_layout.specs.declared.header.Header.{Header}
 use Rattle.house_file.specs.Check.{check_of}
 use Rattle.house_file.specs.promises.Decoded.{Decoded}

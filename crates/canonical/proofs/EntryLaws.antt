@@ -1,16 +1,9 @@
 -- What the entries of a matter are: the kinds that it says, each once, by target and
 -- then by kind byte; how many there can be. Assumes nothing.
-use mathlib.Core.Path.{◌≡◌, refl, ap, ◌∙◌}
-use mathlib.Core.Logic.{⊎_elim}
-use mathlib.Core.Bool.{true, false}
+use Rattle.std.proofs.Common.{◌≡◌, refl, ap, ◌∙◌, ⊎_elim, true, false, List, [], ◌∷◌, ℕ, ◌+◌, ◌*◌, ◌-◌, ◌≤◌, ◌<◌}
+use Rattle.std.proofs.Common.{arith, mul-le-mul, eqb, ltb, length, length-append, lt-ltb, le-ltb, eq-eqb, ne_eqb}
 use mathlib.Core.List.Memᴰ
-use mathlib.Core.List.{List, [], ◌∷◌, Memᴰ}
-use Prim.Native.Nat.{ℕ, ◌+◌, ◌*◌, ◌-◌, ◌≤◌, ◌<◌}
-use native.Mathlib.Omega.{arith}
-use native.Mathlib.Nat.{mul-le-mul}
-use lib.Dec.{eqb, ltb}
-use lib.ListN.{length, length-append}
-use borrow.Author.Tests.{lt-ltb, le-ltb, eq-eqb, ne_eqb}
+use mathlib.Core.List.{Memᴰ}
 use Rattle.lists.specs.Lists.{filter_by, range}
 use Rattle.lists.specs.Order.{Ascending, Distinct}
 use Rattle.lists.proofs.Cases.{by_test, by_last}

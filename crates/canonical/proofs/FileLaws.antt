@@ -1,16 +1,10 @@
 -- What an accepted file records: its matter is in limits, and its R is the number of (owner, target, kind) that it records, since
 -- the records of all chains are the numbers 1 to R, each once, and no two say the same. Assumes nothing.
-use Rattle.std.specs.Prelude.{Ok}
-use mathlib.Core.Path.{◌≡◌, refl, sym, ap, ◌∙◌}
-use mathlib.Core.Logic.{by_cases}
-use mathlib.Core.Bool.{true, true≢false}
-use mathlib.Core.List.{List, map, Memᴰ}
-use Prim.Native.Nat.{ℕ, ◌<◌}
-use native.Mathlib.Omega.{arith}
-use native.Mathlib.Decide.{dec_lt}
-use lib.Dec.{eqb, ltb}
-use lib.ListN.{length}
-use borrow.Author.Tests.{eqb-true, eq-eqb, lt-ltb, ltb-true}
+use Rattle.std.proofs.Common.{Ok, ◌≡◌, refl, sym, ap, ◌∙◌, true, true≢false, List, map, ℕ, ◌<◌}
+use Rattle.std.proofs.Common.{arith, eqb, ltb, length, eqb-true, eq-eqb, lt-ltb, ltb-true}
+use Rattle.std.proofs.Math.Logic.{by_cases}
+use mathlib.Core.List.{Memᴰ}
+use Rattle.std.proofs.Math.Decide.{dec_lt}
 use Rattle.lists.specs.Lists.{flat_map, range, up_from}
 use Rattle.lists.specs.Order.{Distinct}
 use Rattle.lists.proofs.Cases.{by_test, and_left, and_right, and_both}

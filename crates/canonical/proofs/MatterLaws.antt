@@ -1,13 +1,8 @@
 -- The canonical file's matter is the matter that was written: a record of party u's chain has a target and kind exactly where the matter
 -- says that kind. Assumes nothing.
-use mathlib.Core.Path.{◌≡◌, sym, ap, ◌∙◌}
-use mathlib.Core.Logic.{by_cases}
-use mathlib.Core.Bool.{true}
-use Prim.Native.Nat.{ℕ, ◌+◌, ◌<◌}
-use native.Mathlib.Omega.{arith}
-use native.Mathlib.Decide.{dec_lt}
-use lib.ListN.{get_or}
-use borrow.Author.Tests.{lt-ltb, le-ltb, eq-eqb}
+use Rattle.std.proofs.Common.{◌≡◌, sym, ap, ◌∙◌, true, ℕ, ◌+◌, ◌<◌, arith, get_or, lt-ltb, le-ltb, eq-eqb}
+use Rattle.std.proofs.Math.Logic.{by_cases}
+use Rattle.std.proofs.Math.Decide.{dec_lt}
 use Rattle.lists.specs.Lists.{any_of}
 use Rattle.lists.proofs.Cases.{by_test, test_same}
 use Rattle.lists.proofs.Distinct.{in_get_or, get_or_in}

@@ -1,11 +1,6 @@
 -- The canonical file is in shape: its chains are consecutive numbers after those of the lower parties, and in each the records follow the
 -- entries' order. Assumes nothing.
-use mathlib.Core.Path.{◌≡◌, sym, ap, ◌∙◌}
-use mathlib.Core.List.{map}
-use Prim.Native.Nat.{ℕ, ◌+◌, ◌≤◌, ◌<◌}
-use native.Mathlib.Omega.{arith}
-use lib.ListN.{length, get_or}
-use lib.Seq.{ext_get_or}
+use Rattle.std.proofs.Common.{◌≡◌, sym, ap, ◌∙◌, map, ℕ, ◌+◌, ◌≤◌, ◌<◌, arith, length, get_or, ext_get_or}
 use Rattle.lists.specs.Lists.{flat_map, range, up_from}
 use Rattle.lists.proofs.Distinct.{get_or_in}
 use Rattle.lists.proofs.ListLaws.{up_length}

@@ -1,12 +1,7 @@
 -- The canonical file depends on the numbers and on what is said of legal kinds only, so the masks that stand for a matter have its file;
 -- and how long a file is. Assumes nothing.
-use mathlib.Core.Path.{◌≡◌, sym, ap, ◌∙◌}
-use mathlib.Core.Bool.{true}
-use mathlib.Core.List.{List, map}
-use Prim.Native.Nat.{ℕ, suc, ◌+◌, ◌*◌, ◌-◌, ◌≤◌, ◌<◌}
-use native.Mathlib.Omega.{arith}
-use lib.ListN.{length, get_or}
-use borrow.Author.Tests.{le-leb, lt-leb}
+use Rattle.std.proofs.Common.{◌≡◌, sym, ap, ◌∙◌, true, List, map, ℕ, suc, ◌+◌, ◌*◌, ◌-◌, ◌≤◌, ◌<◌, arith, length, get_or, le-leb}
+use Rattle.std.proofs.lemmas.Bool.{lt-leb}
 use Rattle.lists.specs.Lists.{filter_by, flat_map, range}
 use Rattle.lists.proofs.Pointwise.{filter_same, flat_same}
 use Rattle.masks.specs.declared.Table.{Table}

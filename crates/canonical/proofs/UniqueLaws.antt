@@ -1,15 +1,10 @@
 -- The shape leaves no choice: an accepted file in shape has, chain by chain, the entries of its matter in order, so its heads, its records
 -- and then its bytes are the canonical file's. Assumes nothing.
-use Rattle.std.specs.Prelude.{Ok}
-use mathlib.Core.Path.{◌≡◌, sym, ap, ◌∙◌}
-use mathlib.Core.Logic.{by_cases}
-use mathlib.Core.Bool.{true}
-use mathlib.Core.List.{List, map, Memᴰ}
-use Prim.Native.Nat.{ℕ, zero, suc, ◌+◌, ◌*◌, ◌-◌, ◌/◌, ◌%◌, ◌≤◌, ◌<◌}
-use native.Mathlib.Omega.{arith}
-use native.Mathlib.Decide.{dec_lt}
-use lib.ListN.{length, get_or}
-use lib.Seq.{ext_get_or}
+use Rattle.std.proofs.Common.{Ok, ◌≡◌, sym, ap, ◌∙◌, true, List, map, ℕ, zero, suc, ◌+◌, ◌*◌}
+use Rattle.std.proofs.Common.{◌-◌, ◌/◌, ◌%◌, ◌≤◌, ◌<◌, arith, length, get_or, ext_get_or}
+use Rattle.std.proofs.Math.Logic.{by_cases}
+use mathlib.Core.List.{Memᴰ}
+use Rattle.std.proofs.Math.Decide.{dec_lt}
 use Rattle.lists.specs.Lists.{flat_map, range, up_from}
 use Rattle.lists.proofs.ListLaws.{map_in, map_out, up_in, up_length}
 use Rattle.lists.proofs.OrderLaws.{ascending_equal, length_map}

@@ -1,37 +1,31 @@
 -- The file's bytes piece by piece: records of the edition that is written are five bytes each, so each piece begins where the one before it
 -- ends. Assumes nothing.
-use Rattle.std.specs.Prelude.{Option, Some, None}
-use mathlib.Core.Path.{◌≡◌, refl, sym, ap, ◌∙◌}
-use mathlib.Core.List.{List, [], ◌∷◌, ◌++◌, map, append_assoc}
-use Prim.Native.Nat.{ℕ, suc, ◌+◌, ◌*◌, ◌-◌, ◌≤◌}
-use native.Mathlib.Numerals.{add-one}
-use native.Mathlib.Omega.{arith}
-use lib.ListN.{length, set, length-append}
+use Rattle.std.proofs.Common.{Some, None, ◌≡◌, refl, sym, ap, ◌∙◌, List, [], ◌∷◌, ◌++◌, map, append_assoc}
+use Rattle.std.proofs.Common.{ℕ, suc, ◌+◌, ◌*◌, ◌-◌, ◌≤◌, ◌<◌, add-one, arith, length, set, length-append}
 use Rattle.lists.specs.Lists.{flat_map, up_from, range}
 use Rattle.lists.proofs.OrderLaws.{length_map}
 use Rattle.lists.proofs.Pointwise.{map_append}
 use Rattle.lists.proofs.Pieces.{flat_append, flat_one, flat_suc, pieces_length}
 use Rattle.fields.specs.Numbers.{u16_bytes}
 use Rattle.fields.specs.promises.Writing.{put}
-use Rattle.fields.proofs.PutLaws.{put_two, put_three, then_put, then_one, then_three, put_put}
+use Rattle.fields.proofs.PutLaws.{put_nil, put_two, put_three, then_put, then_one, then_three, put_put}
 use Rattle.rebac.specs.Matter.{Matter}
 use Rattle.house_layout.specs.Layout.{record_size, owner_in}
 use Rattle.house_layout.specs.declared.header.Header.{Header}
 use Rattle.house_layout.specs.declared.record.Record.{Record}
 use Rattle.canonical.specs.Canonical.{Entry, entry, entries_of, entries_below, first_of, link, chain_records, records_for}
-use Rattle.canonical.specs.Canonical.{header_bytes, heads_by, owner_bytes, record_bytes, header_for, canonical_of, written_edition}
-use Rattle.canonical.specs.promises.Masks.{chain_bytes, pair_bytes, numbers_in, FirstsOf}
+use Rattle.canonical.specs.Canonical.{header_bytes, heads_by, record_bytes, header_for, canonical_of, written_edition}
+use Rattle.canonical.specs.promises.Masks.{matter_by, chain_bytes, pair_bytes, numbers_in, FirstsOf, FileFits, Written}
 use Rattle.canonical.specs.declared.count.Firsts.{Firsts}
-use Rattle.canonical.proofs.LayoutLaws.{header_size_lem, heads_size, heads_same}
+use Rattle.canonical.specs.declared.matter.MatterIn.{MatterIn}
+use Rattle.canonical.proofs.CountLaws.{kinds_none, kinds_all, kinds_room}
+use Rattle.canonical.proofs.EntryLaws.{count_bounded}
+use Rattle.canonical.proofs.LayoutLaws.{header_size_lem, heads_size, heads_same, first_step, first_most}
 use Rattle.canonical.proofs.LayoutLaws.{linked_length, linked_sized, records_below, records_sized}
 
 -- a record byte after byte: the first four,
 abbrev pub front_bytes : Record → List ℕ
 front_bytes x = x.target ∷ x.kind ∷ u16_bytes x.next
-
-pub front_size : (x : Record) → length (front_bytes x) ≡ 4
-unfolding u16_bytes
-front_size x = refl
 
 pub front_put : (b out : List ℕ) (at : ℕ) (x : Record) → at + 4 ≤ length b
     → out ≡ put (set (set b at x.target) (at + 1) x.kind) (at + 2) (u16_bytes x.next) → out ≡ put b at (front_bytes x)
@@ -50,14 +44,6 @@ pub owner_put : (b out : List ℕ) (at u : ℕ) (x : Record) → at + 5 ≤ leng
     → set out (at + 4) u ≡ put b at (record_bytes x)
 unfolding record_bytes u16_bytes
 owner_put b out at u x h q e = rw q (then_one b at (front_bytes x) out (at + 4) e refl u (omega arith))
-
-owner_most : (o : Option ℕ) → length (owner_bytes o) ≤ 1
-owner_most None = omega arith
-owner_most (Some u) = omega arith
-
-pub record_most : (x : Record) → length (record_bytes x) ≤ 5
-unfolding record_bytes u16_bytes
-record_most x = omega (arith, owner_most x.owner)
 
 -- the header byte after byte
 pub header_put : (b out : List ℕ) (h : Header) → 8 ≤ length b
@@ -139,6 +125,9 @@ module _ (end : ℕ) where
       rw (m, chain_append, ← n)
       (then_put b (base + 5 * (r - 1)) (chain_bytes end r es) out (base + 5 * (next - 1)) o e (pair_bytes end next u v ks) h)
 
+-- what `put_pair` rests on: no kinds, all of them, and room for one more
+pub ruleset pair_laws = (kinds_none, kinds_all, kinds_room, pair_none, put_nil)
+
 -- the heads of the parties below u
 module _ (first : ℕ → ℕ) where
   pub heads_none : heads_by first 0 ≡ []
@@ -184,6 +173,35 @@ module _ (M : Matter) where
       let z : base + 5 * (first - 1) ≡ base + length (records_to M u) = omega (arith, records_length u) in
       rw (records_more, ← f, ← e)
       (then_put b base (records_to M u) out (base + 5 * (first - 1)) o z (chain_bytes end first (entries_of M u)) h)
+
+-- the numbers of the first records fit in two bytes
+pub firsts_small : (m : MatterIn) (f : Firsts) (u : ℕ) → Written m f → u ≤ m.header.parties → numbers_in f u < 65536
+firsts_small m f u w h =
+    let M = matter_by m in
+    omega (arith, w.firsts u h, first_most M u h, count_bounded M m.parties m.labels)
+
+-- the numbers of party u's records, and room for them in an output of this size
+pub record PartyFits (m : MatterIn) (f : Firsts) (u size : ℕ) : Type 0 where
+  pub first : 1 ≤ numbers_in f u
+  pub entries : numbers_in f u + length (entries_of (matter_by m) u) ≤ numbers_in f (u + 1)
+  pub last : numbers_in f (u + 1) < 65536
+  pub room : 8 + 2 * m.header.parties + 5 * (numbers_in f (u + 1) - 1) ≤ size
+
+-- each party's records have their numbers, and fit where the whole file does
+pub party_fits : (m : MatterIn) (f : Firsts) (size u : ℕ) → Written m f → FileFits m size → u < m.header.parties → PartyFits m f u size
+party_fits m f size u w room h =
+    let M = matter_by m in
+    let first = w.firsts u (omega arith) in
+    let step = ap (first_of M) (add-one u) ∙ first_step M u in
+    let end = w.firsts (u + 1) (omega arith) in
+    let most = first_most M (u + 1) (omega arith) in
+    let count = count_bounded M m.parties m.labels in
+    record {
+      first = omega arith;
+      entries = omega arith;
+      last = omega arith;
+      room = omega (arith, w.records, room);
+    }
 
 -- the file's parts one after another: header, heads, records
 pub file_put : (M : Matter) (h : Header) (f : Firsts) → FirstsOf M f → header_for written_edition M ≡ h → (b o₁ o₂ o₃ : List ℕ)

@@ -2,7 +2,11 @@
 #![tactic(auto)]
 
 mod call;
+mod chain;
 mod count;
+mod kinds;
+mod matter;
+mod numbered;
 mod write;
 
 pub use call::write_call;

@@ -1,106 +1,83 @@
-// The calls of the script's frames, and those of them that are given a word and an output.
-ghost use Rattle.std.specs.Prelude.{◌+◌, ◌≤◌, length};
-
-use crate::frame::{Call, Frame};
-use crate::print::hex_bytes;
-use crate::{fill, listed, refused, show_check, show_decode, tested, written};
+// The calls of the script's frames, and how those that are lent an output run.
+use crate::frame::{Asked, Call};
+use crate::print::show_hex;
+use crate::stop::Stop;
+use crate::{fill, listed, show, show_check, show_decode, tested};
 use house_layout::Refusal;
 use limits::WORD_CAPACITY;
 use search::Word;
-use std::io;
 use std::io::{Read, Write};
 
-// The word of a frame: its length, then 31 symbols.
-// Kept: no `From` can stand here, since both types are of other crates.
-pub fn word_of(given: &[u8; 32]) -> Word {
+// The largest outputs of a word and of a file.
+const WORD_ROOM: usize = 200;
+
+const FILE_ROOM: usize = 60000;
+
+// Reads the word of a frame: its length, then 31 symbols.
+pub fn read_word<R: Read>(input: &mut R) -> Result<Word, Stop> {
+    let mut given = [0u8; 32];
+    fill(&mut given, 32, input)?;
     let mut symbols = [0u8; WORD_CAPACITY];
     symbols.copy_from_slice(&given[1..]);
-    Word {
+    Ok(Word {
         len: usize::from(given[0]),
         symbols,
-    }
+    })
 }
 
-fn show_reply<W: Write>(r: Result<Option<usize>, Refusal>, out: &mut W) -> io::Result<()> {
-    match r {
-        Err(e) => refused(e, out),
-        Ok(None) => writeln!(out, " none"),
-        Ok(Some(k)) => writeln!(out, " {k}"),
-    }
-}
-
-pub fn show_output<W: Write>(shown: &[u8], out: &mut W) -> io::Result<()> {
-    write!(out, "output ")?;
-    hex_bytes(out, shown)?;
-    writeln!(out)
-}
-
-// Runs the call of a frame, and reads what else the frame has; false where the script is too short. No call has an unknown letter.
-pub fn run<R: Read, W: Write>(
-    f: Frame,
-    file: &[u8],
-    input: &mut R,
-    out: &mut W,
-) -> io::Result<bool> {
+// Runs the call of a frame, and reads what else the frame has. No call has an unknown letter.
+pub fn run<R: Read, W: Write>(asked: Asked, input: &mut R, out: &mut W) -> Result<(), Stop> {
+    let Asked { frame: f, file } = asked;
     match f.call {
         None => {}
         Some(Call::Check) => show_check(file, out)?,
         Some(Call::Decode) => show_decode(file, out)?,
-        Some(Call::Path) | Some(Call::NextWord) => return run_word(f, file, input, out),
-        Some(Call::Test) => return tested::run_test(f, file, input, out),
-        Some(Call::Write) => return written::run_write(f, file, input, out),
-        Some(Call::Permit) | Some(Call::Compare) | Some(Call::Text) => {
-            return listed::run_list(f, file, input, out);
-        }
-    }
-    Ok(true)
-}
-
-// Lends the middle of a space of 16 + n + 16 bytes and shows all of it.
-fn answer<W: Write>(
-    f: Frame,
-    file: &[u8],
-    w: Word,
-    space: &mut [u8],
-    end: usize,
-    out: &mut W,
-) -> io::Result<()>
-    requires { (16 ≤ end) × (end ≤ length space.old) }
-{
-    let lent = &mut space[16..end];
-    match f.call {
         Some(Call::Path) => {
-            write!(out, "path")?;
-            show_reply(paths::path_call(file, f.first, f.second, w, lent), out)
+            let w = read_word(input)?;
+            let mut space = [0u8; WORD_ROOM + 32];
+            run_lent("path", f.output, &mut space, input, out, |lent| {
+                paths::path_call(file, f.first, f.second, w, lent)
+            })?
         }
-        _ => {
-            write!(out, "next-word")?;
-            show_reply(paths::next_call(file, f.first, f.second, w, lent), out)
+        Some(Call::NextWord) => {
+            let w = read_word(input)?;
+            let mut space = [0u8; WORD_ROOM + 32];
+            run_lent("next-word", f.output, &mut space, input, out, |lent| {
+                paths::next_call(file, f.first, f.second, w, lent)
+            })?
         }
+        Some(Call::Write) => {
+            let mut space = [0u8; FILE_ROOM + 32];
+            run_lent("write", f.output, &mut space, input, out, |lent| {
+                canonical::write_call(file, lent).map(Some)
+            })?
+        }
+        Some(Call::Test) => tested::run_test(asked, input, out)?,
+        Some(Call::Permit) => listed::run_list(asked, input, out, listed::show_permit)?,
+        Some(Call::Compare) => listed::run_list(asked, input, out, listed::show_compare)?,
+        Some(Call::Text) => listed::run_list(asked, input, out, listed::show_text)?,
     }
+    Ok(())
 }
 
-// Path and next-word.
-fn run_word<R: Read, W: Write>(
-    f: Frame,
-    file: &[u8],
+// Reads n bytes and the 16 on each side into the space, lends the n to the call, and shows its reply and all of the bytes.
+fn run_lent<R: Read, W: Write, F: FnOnce(&mut [u8]) -> Result<Option<usize>, Refusal> + Drop>(
+    name: &str,
+    n: usize,
+    space: &mut [u8],
     input: &mut R,
     out: &mut W,
-) -> io::Result<bool> {
-    let mut given = [0u8; 32];
-    if !fill(&mut given, 32, input)? {
-        return Ok(false);
-    }
-    let w = word_of(&given);
-    let mut space = [0u8; 256];
-    let n = f.output;
-    if 200 < n {
-        return Ok(false);
-    }
-    if !fill(&mut space, n + 32, input)? {
-        return Ok(false);
-    }
-    answer(f, file, w, &mut space, n + 16, out)?;
-    show_output(&space[..n + 32], out)?;
-    Ok(true)
+    call: F,
+) -> Result<(), Stop>
+    requires { F.IsAlwaysCallable call }
+{
+    let end = n.checked_add(32).ok_or(Stop::Ended)?;
+    fill(space, end, input)?;
+    let reply = call(&mut space[16..end - 16]);
+    show(name, reply, out, |found, out| match found {
+        None => writeln!(out, " none"),
+        Some(k) => writeln!(out, " {k}"),
+    })?;
+    show_hex(&space[..end], "output ", out)?;
+    Ok(())
 }

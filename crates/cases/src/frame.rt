@@ -1,7 +1,8 @@
-// A frame's first 24 bytes.
+// What a frame of the script begins with, and its file.
 ghost use Rattle.std.specs.Prelude.{◌+◌, ◌<◌};
 
-use std::io;
+use crate::fill;
+use crate::stop::Stop;
 use std::io::Read;
 
 // What a frame asks for.
@@ -52,6 +53,13 @@ pub struct Frame {
     pub output: usize,
 }
 
+// A frame and the file that follows it.
+#[derive(Clone, Copy)]
+pub struct Asked<'a> {
+    pub frame: Frame,
+    pub file: &'a [u8],
+}
+
 // Four bytes, low byte first.
 fn u32_at(head: &[u8; 24], at: usize) -> usize
     requires { at + 3 < 24 }
@@ -59,18 +67,16 @@ fn u32_at(head: &[u8; 24], at: usize) -> usize
     u32::from_le_bytes([head[at], head[at + 1], head[at + 2], head[at + 3]]) as usize
 }
 
-// The next frame's numbers; none at the script's end.
-pub fn read<R: Read>(input: &mut R) -> io::Result<Option<Frame>> {
+// The next frame's numbers.
+pub fn read<R: Read>(input: &mut R) -> Result<Frame, Stop> {
     let mut head = [0u8; 24];
-    if reading::read_full(input, &mut head)? < 24 {
-        return Ok(None);
-    }
-    Ok(Some(Frame {
+    fill(&mut head, 24, input)?;
+    Ok(Frame {
         call: Call::try_from(head[0]).ok(),
         first: usize::from(head[1]),
         second: usize::from(head[2]),
         file: u32_at(&head, 4),
         given: u32_at(&head, 8),
         output: u32_at(&head, 12),
-    }))
+    })
 }

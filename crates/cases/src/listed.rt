@@ -1,90 +1,73 @@
 // The calls that are given a rule list: permit, compare, and the list's text.
-ghost use Rattle.rebac.specs.Matter.{Matter};
-ghost use Rattle.graph.specs.promises.Archive.{Shows};
-
-use crate::frame::{Call, Frame};
-use crate::print::hex_bytes;
-use crate::{LARGE, fill, refused};
+use crate::frame::Asked;
+use crate::print::show_hex;
+use crate::stop::Stop;
+use crate::{LARGE, fill, show};
 use comparison::Difference;
-use graph::Archive;
 use house_layout::Refusal;
 use mining::Pair;
 use std::io;
 use std::io::{Read, Write};
 
-fn show_permit<W: Write>(f: Frame, file: &[u8], list: &[u8], out: &mut W) -> io::Result<()> {
-    write!(out, "permit")?;
-    match rules::permit_call(file, list, f.first, f.second) {
-        Err(e) => refused(e, out),
-        Ok(true) => writeln!(out, " yes"),
-        Ok(false) => writeln!(out, " no"),
-    }
+pub fn show_permit<W: Write>(asked: Asked, list: &[u8], out: &mut W) -> io::Result<()> {
+    let f = asked.frame;
+    let reply = rules::permit_call(asked.file, list, f.first, f.second);
+    show("permit", reply, out, |permitted, out| {
+        writeln!(out, " {}", if permitted { "yes" } else { "no" })
+    })
 }
 
 fn show_difference<W: Write>(p: Pair, side: &str, out: &mut W) -> io::Result<()> {
     writeln!(out, " {} {} {side}", p.first, p.second)
 }
 
-fn show_compare<W: Write>(file: &[u8], list: &[u8], out: &mut W) -> io::Result<()> {
-    write!(out, "compare")?;
-    match comparison::compare_call(file, list) {
-        Err(e) => refused(e, out),
-        Ok(None) => writeln!(out, " same"),
-        Ok(Some(Difference::OnlyFile(p))) => show_difference(p, "file", out),
-        Ok(Some(Difference::OnlyList(p))) => show_difference(p, "list", out),
-    }
+pub fn show_compare<W: Write>(asked: Asked, list: &[u8], out: &mut W) -> io::Result<()> {
+    let reply = comparison::compare_call(asked.file, list);
+    show("compare", reply, out, |found, out| match found {
+        None => writeln!(out, " same"),
+        Some(Difference::OnlyFile(p)) => show_difference(p, "file", out),
+        Some(Difference::OnlyList(p)) => show_difference(p, "list", out),
+    })
 }
 
-// The list's text, where the list is right for the file.
-fn show_text_in<W: Write>(a: Archive, list: &[u8], space: &mut [u8], out: &mut W) -> io::Result<()>
-    requires { (M : Matter) × Shows M a }
-{
-    if !rule_bytes::check_list(list, a.labels, a.language, a.longest) {
-        return refused(Refusal::RuleList, out);
+// The text of a list that is right for the file; none where the space may be too small.
+fn text_call<'a>(
+    asked: Asked,
+    list: &[u8],
+    space: &'a mut [u8],
+) -> Result<Option<&'a [u8]>, Refusal> {
+    let a = graph::load(asked.file)?;
+    if !rule_bytes::check_list(list, a.words) {
+        return Err(Refusal::RuleList);
     }
     if space.len() / 3 < list.len() {
-        return Ok(());
+        return Ok(None);
     }
     let k = rule_text::list_text(list, space);
-    if space.len() < k {
-        return Ok(());
-    }
-    write!(out, " ")?;
-    hex_bytes(out, &space[..k])?;
-    writeln!(out)
+    Ok(space.get(..k))
 }
 
-fn show_text<W: Write>(file: &[u8], list: &[u8], out: &mut W) -> io::Result<()> {
-    write!(out, "text")?;
-    match graph::load(file) {
-        Err(e) => refused(e, out),
-        Ok(a) => {
-            let mut space = [0u8; LARGE];
-            show_text_in(a, list, &mut space, out)
-        }
-    }
+pub fn show_text<W: Write>(asked: Asked, list: &[u8], out: &mut W) -> io::Result<()> {
+    let mut space = [0u8; LARGE];
+    let reply = text_call(asked, list, &mut space);
+    show("text", reply, out, |found, out| match found {
+        None => Ok(()),
+        Some(text) => show_hex(text, " ", out),
+    })
 }
 
-// Runs the call of a frame with its list.
-fn show<W: Write>(f: Frame, file: &[u8], list: &[u8], out: &mut W) -> io::Result<()> {
-    match f.call {
-        Some(Call::Permit) => show_permit(f, file, list, out),
-        Some(Call::Compare) => show_compare(file, list, out),
-        _ => show_text(file, list, out),
-    }
-}
-
-// Reads the list of a frame and runs its call; false where the script is too short.
-pub fn run_list<R: Read, W: Write>(
-    f: Frame,
-    file: &[u8],
+// Reads the list of a frame and runs its call.
+pub fn run_list<R: Read, W: Write, F: FnOnce(Asked<'_>, &[u8], &mut W) -> io::Result<()> + Drop>(
+    asked: Asked,
     input: &mut R,
     out: &mut W,
-) -> io::Result<bool> {
+    call: F,
+) -> Result<(), Stop>
+    requires { F.IsAlwaysCallable call }
+{
     let mut list = [0u8; LARGE];
-    if !fill(&mut list, f.given, input)? {
-        return Ok(false);
-    }
-    show(f, file, &list[..f.given], out)?;
-    Ok(true)
+    let n = asked.frame.given;
+    fill(&mut list, n, input)?;
+    call(asked, &list[..n], out)?;
+    Ok(())
 }

@@ -2,34 +2,45 @@
 // A read or a write that fails ends it with that error.
 #![tactic(auto)]
 
-ghost use Rattle.std.specs.Prelude.{◌≡◌, true, ◌≤◌, length, IfOk};
+ghost use Rattle.std.specs.Prelude.{◌≤◌, length, OnOk};
 
+use frame::Asked;
 use house_file::House;
 use house_layout::Refusal;
 use std::io;
 use std::io::{Read, Write};
+use stop::Stop;
 
 mod calls;
 mod frame;
 mod listed;
 mod print;
+mod stop;
 mod tested;
-mod written;
 
-// Room for a file, a rule list, its text, or an output with its guards.
+// Room for a file, a rule list, or its text.
 pub const LARGE: usize = 65536;
 
-pub fn refused<W: Write>(e: Refusal, out: &mut W) -> io::Result<()> {
-    let number = u8::from(e);
-    writeln!(out, " refused {number}")
+// Prints the reply of a call: its name, then its refusal, or its answer by the closure.
+pub fn show<T: Drop, W: Write, F: FnOnce(T, &mut W) -> io::Result<()> + Drop>(
+    name: &str,
+    reply: Result<T, Refusal>,
+    out: &mut W,
+    answer: F,
+) -> io::Result<()>
+    requires { F.IsAlwaysCallable answer }
+{
+    write!(out, "{name}")?;
+    match reply {
+        Err(e) => writeln!(out, " refused {}", u8::from(e)),
+        Ok(given) => answer(given, out),
+    }
 }
 
 pub fn show_check<W: Write>(file: &[u8], out: &mut W) -> io::Result<()> {
-    write!(out, "check")?;
-    match house_file::check(file) {
-        Ok(()) => writeln!(out, " accepted"),
-        Err(e) => refused(e, out),
-    }
+    show("check", house_file::check(file), out, |(), out| {
+        writeln!(out, " accepted")
+    })
 }
 
 // The labels of each pair of one party, where there are any.
@@ -62,43 +73,40 @@ fn show_house<W: Write>(house: House, out: &mut W) -> io::Result<()> {
 }
 
 pub fn show_decode<W: Write>(file: &[u8], out: &mut W) -> io::Result<()> {
-    write!(out, "decode")?;
-    match house_file::read(file) {
-        Ok(house) => show_house(house, out),
-        Err(e) => refused(e, out),
-    }
+    show("decode", house_file::read(file), out, |house, out| {
+        show_house(house, out)
+    })
 }
 
-// Reads the n bytes that come next into the space; false where the space or the script is too short.
-pub fn fill<R: Read>(space: &mut [u8], n: usize, input: &mut R) -> io::Result<bool>
-    ensures { IfOk result (λ filled. filled ≡ true → n ≤ length space.new) }
+// Reads the n bytes that come next into the space.
+pub fn fill<R: Read>(space: &mut [u8], n: usize, input: &mut R) -> Result<(), Stop>
+    ensures { OnOk result (n ≤ length space.new) }
 {
-    if space.len() < n {
-        return Ok(false);
+    if space.len() < n || reading::read_full(input, &mut space[..n])? < n {
+        return Err(Stop::Ended);
     }
-    let got = reading::read_full(input, &mut space[..n])?;
-    Ok(got == n)
+    Ok(())
 }
 
-// Reads and runs one frame; false at the script's end, and where the script is too short.
-fn next<R: Read, W: Write>(input: &mut R, out: &mut W) -> io::Result<bool> {
-    let Some(f) = frame::read(input)? else {
-        return Ok(false);
-    };
-    let mut file = [0u8; LARGE];
-    if !fill(&mut file, f.file, input)? {
-        return Ok(false);
-    }
-    calls::run(f, &file[..f.file], input, out)
+// Reads and runs one frame.
+fn next<R: Read, W: Write>(input: &mut R, out: &mut W) -> Result<(), Stop> {
+    let frame = frame::read(input)?;
+    let n = frame.file;
+    let mut space = [0u8; LARGE];
+    fill(&mut space, n, input)?;
+    let file = &space[..n];
+    calls::run(Asked { frame, file }, input, out)
 }
 
-// A proved loop has to end: no script has so many frames.
+// Kept: a proved `loop` needs a measure, and `R.remaining`, which may be none, is no number; no script has so many frames.
 fn main(rt: HostRuntime) -> io::Result<()> {
     let mut input = rt.stdin();
     let mut out = rt.stdout();
     for _ in 0..u64::MAX {
-        if !next(&mut input, &mut out)? {
-            break;
+        match next(&mut input, &mut out) {
+            Ok(()) => {}
+            Err(Stop::Ended) => break,
+            Err(Stop::Failed(e)) => return Err(e),
         }
     }
     Ok(())

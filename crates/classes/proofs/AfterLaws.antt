@@ -1,13 +1,9 @@
 -- Two letters that stand next to each other in a word of a path lead over three different parties, so the second follows the first.
 -- A letter that does not follow the one before it begins no rest of a word. By induction on the letters before. Assumes nothing.
-use mathlib.Core.Path.{◌≡◌, sym, ◌∙◌}
-use mathlib.Core.Bool.{true, false}
+use Rattle.std.proofs.Common.{◌≡◌, sym, ◌∙◌, true, false, List, [], ◌∷◌, ◌++◌, ℕ, zero, suc, ◌+◌, ◌-◌}
+use Rattle.std.proofs.Common.{◌*◌, ◌/◌, ◌%◌, ◌≤◌, ◌<◌, arith, length, get_or, replicate, get_or-take}
 use mathlib.Core.List.Memᴰ
-use mathlib.Core.List.{List, [], ◌∷◌, ◌++◌}
-use Prim.Native.Nat.{ℕ, zero, suc, ◌+◌, ◌-◌, ◌*◌, ◌/◌, ◌%◌, ◌≤◌, ◌<◌}
-use native.Mathlib.Omega.{arith}
-use lib.ListN.{length, get_or, replicate, get_or-append}
-use lib.Seq.{get_or-take}
+use Rattle.std.proofs.Math.ListN.{get_or-append}
 use Rattle.lists.specs.Order.{Distinct}
 use Rattle.lists.proofs.Cases.{by_test, both}
 use Rattle.limits.specs.Limits.{most_parties, symbol_count}

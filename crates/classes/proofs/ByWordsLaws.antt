@@ -1,14 +1,9 @@
 -- The words of one length that a pair has, one after another: the next after a word that does not tell is the least that may.
 -- Assumes nothing.
-use mathlib.Core.Path.{◌≡◌, refl, sym, ap, ◌∙◌}
-use mathlib.Core.Logic.{◌⊎◌, ⊎_elim}
-use mathlib.Core.Bool.{Bool, true, false, not}
-use mathlib.Core.List.{List, [], ◌∷◌, Memᴰ}
-use mathlib.Core.Option.{Option, none, some}
-use Prim.Native.Nat.{ℕ, suc, ◌<◌}
-use native.Mathlib.Omega.{arith}
-use lib.ListN.{length}
-use lib.Dec.{ltb}
+use Rattle.std.proofs.Common.{◌≡◌, refl, sym, ap, ◌∙◌, ◌⊎◌, ⊎_elim, Bool, true, false, not, List}
+use Rattle.std.proofs.Common.{[], ◌∷◌, ℕ, suc, ◌<◌, arith, length, ltb, MatchOption, None, Some}
+use mathlib.Core.List.{Memᴰ}
+use Rattle.std.proofs.Math.Option.{Option, none, some}
 use Rattle.lists.specs.Lists.{filter_by, range}
 use Rattle.lists.specs.Order.{Ascending}
 use Rattle.lists.proofs.Cases.{by_test, by_found, both}
@@ -30,7 +25,7 @@ use Rattle.rebac.proofs.WordsLaws.{length_in, length_out, length_ascending}
 use Rattle.search.specs.Word.{symbols_in}
 use Rattle.search.specs.declared.word.ShortWord.{ShortWord}
 use Rattle.words.specs.promises.Next.{WordAs}
-use Rattle.std.specs.Prelude.{MatchOption, None, Some, Option as Maybe}
+use Rattle.std.specs.Prelude.{Option as Maybe}
 
 -- how many words of k symbols stand after a word, and after the word in hand with it: the measure of going through them
 unfoldable pub words_after : ℕ → List ℕ → ℕ

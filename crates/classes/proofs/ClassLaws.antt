@@ -1,14 +1,9 @@
 -- The law of lengths: where the second pair has every word of k classes that the first has, it has every word of k symbols that the
 -- first has. On a path of the first pair each symbol has a class, and a path of the second along the classes is one along the symbols.
 -- By induction on the symbols. Assumes nothing.
-use mathlib.Core.Path.{◌≡◌, refl, ap, ◌∙◌}
-use mathlib.Core.Bool.{true}
+use Rattle.std.proofs.Common.{◌≡◌, refl, ap, ◌∙◌, true, List, [], ◌∷◌, ℕ, suc, ◌<◌, arith, length}
 use mathlib.Core.List.Memᴰ
-use mathlib.Core.List.{List, [], ◌∷◌}
-use mathlib.Core.Option.{none}
-use Prim.Native.Nat.{ℕ, suc, ◌<◌}
-use native.Mathlib.Omega.{arith}
-use lib.ListN.{length}
+use Rattle.std.proofs.Math.Option.{none}
 use Rattle.lists.specs.Lists.{range}
 use Rattle.lists.proofs.Cases.{by_mem}
 use Rattle.lists.proofs.ListLaws.{find_none, find_none_of, range_in}

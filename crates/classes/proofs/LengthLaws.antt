@@ -1,25 +1,20 @@
--- Telling words length by length: none is as long as there are parties, and one found is of the letters. A word of letters is read as
--- symbols place by place. Assumes nothing.
-use mathlib.Core.Path.{◌≡◌, refl, sym, ap, ◌∙◌}
-use mathlib.Core.Bool.{true, false}
-use mathlib.Core.Logic.{by_cases}
-use mathlib.Core.List.{List, [], ◌∷◌, ◌++◌, append_assoc, append-nil, Memᴰ}
-use mathlib.Core.Option.{none, some, map}
-use Prim.Native.Nat.{ℕ, zero, suc, ◌+◌, ◌-◌, ◌≤◌, ◌<◌}
-use native.Mathlib.Decide.{dec_lt}
-use native.Mathlib.Omega.{arith}
-use native.Mathlib.Numerals.{add-one}
-use lib.Dec.{ltb}
-use lib.ListN.{length, get_or, set, take, drop, drop_of_length-le}
-use lib.Seq.{take-suc, take_all, take-set-lt, drop-cons, get_or-take, set_at, length-take-le}
+-- Telling words length by length: none is as long as there are parties. A word of letters is read as symbols place by place.
+-- Assumes nothing.
+use Rattle.std.proofs.Common.{◌≡◌, refl, sym, ap, ◌∙◌, true, List, [], ◌∷◌, ◌++◌, append_assoc, ℕ, zero}
+use Rattle.std.proofs.Common.{suc, ◌+◌, ◌-◌, ◌≤◌, ◌<◌, min, arith, add-one, ltb, length, get_or, set, take}
+use Rattle.std.proofs.Common.{drop, take-suc, drop-cons, get_or-take, length-take-le, None, Some}
+use Rattle.std.proofs.lemmas.List.{set_at}
+use Rattle.std.proofs.Math.Logic.{by_cases}
+use mathlib.Core.List.{Memᴰ}
+use Rattle.std.proofs.Math.Option.{none, some, map}
+use Rattle.std.proofs.Math.Decide.{dec_lt}
+use Rattle.std.proofs.Math.Seq.{take-set-lt}
 use Rattle.lists.specs.Lists.{range}
 use Rattle.lists.specs.Order.{Ascending}
-use Rattle.lists.proofs.Cases.{by_found, clash}
-use Rattle.lists.proofs.Distinct.{get_or_in}
-use Rattle.lists.proofs.ListLaws.{find_in, find_none_of, range_out}
+use Rattle.lists.proofs.ListLaws.{find_none_of}
 use Rattle.lists.proofs.OrderLaws.{length_map}
 use Rattle.lists.proofs.Pointwise.{map_append}
-use Rattle.limits.specs.Limits.{symbol_count}
+use Rattle.lists.proofs.Ranges.{NoneGiven, FirstGiven}
 use Rattle.rebac.specs.Matter.{Pair, IsPair}
 use Rattle.rebac.specs.Words.{words_of_length}
 use Rattle.rebac.specs.Paths.{Graph}
@@ -32,7 +27,7 @@ use Rattle.search.specs.promises.WordValues.{Short}
 use Rattle.search.specs.declared.word.Word.{Word}
 use Rattle.search.proofs.SearchLaws.{symbols_length, short_fits}
 use Rattle.search.specs.declared.word.ShortWord.{ShortWord}
-use Rattle.std.specs.Prelude.{None, Some, Option as Maybe, is_some}
+use Rattle.std.specs.Prelude.{Option as Maybe}
 use Rattle.words.specs.promises.Next.{WordAs}
 use Rattle.words.proofs.NextLaws.{or_found}
 use Rattle.letters.specs.promises.Letters.{letter_symbol, in_symbols, Lettered}
@@ -82,22 +77,19 @@ module _ (g : Graph ℕ) (p q : Pair) (al : List ℕ) where
           none_up (x.0 - from) x.0 (omega (arith, x.1)) (omega (arith, x.2)) x.4 ∙ longer_step x.0 d x.2
           ∙ or_found _ _ (symbols_in w.word) (told (x.0 + 1) (Some w) x.3)
 
-  -- one found is over the alphabet
-  telling_over : (k : ℕ) {w : List ℕ} → first_telling g p q al k ≡ some w → (s : ℕ) → Memᴰ s w → Memᴰ s al
-  unfolding first_telling
-  telling_over k e = (length_out al k (find_in (tells g p q) (words_of_length al k) e)).0
+-- what is told at the numbers before the lengths
+pub first_told : (Told : ℕ → Maybe ShortWord → Type 0) (n from d : ℕ) (r : Maybe ShortWord)
+    → FirstGiven (λ x o. Told (x + 1) o) from (min d (n - 1)) r → FirstLength Told n from d r
+first_told Told n from d r h = told r h
+  where
+    none_told : (k : ℕ) → NoneGiven (λ x o. Told (x + 1) o) from (min k (n - 1)) → NoneUpTo Told n from k
+    none_told k f j low high below =
+        let e : j - 1 + 1 ≡ j = omega arith in
+        (None, rw e at (f (j - 1) (omega arith) (omega arith)), refl)
 
-  pub longer_over : (k j : ℕ) {w : List ℕ} → first_telling_longer g p q al k j ≡ some w → (s : ℕ) → Memᴰ s w → Memᴰ s al
-  unfolding first_telling_longer
-  longer_over k zero {w} e = clash (cc e)
-  longer_over k (suc j) {w} e =
-      by_found (first_telling g p q al (suc k))
-      (λ f. longer_over (suc k) j (rw (f, first_telling_longer) at e))
-      (λ x f. telling_over (suc k) (f ∙ rw (f, first_telling_longer) at e))
-
-pub no_word : (r : Maybe ShortWord) → is_some r ≡ false → r ≡ None
-no_word None f = refl
-no_word (Some w) f = clash f
+    told : (o : Maybe ShortWord) → FirstGiven (λ x o. Told (x + 1) o) from (min d (n - 1)) o → FirstLength Told n from d o
+    told None f = none_told d f
+    told (Some w) (x, low, high, t, f) = (x, low, omega arith, t, none_told x (λ k a b. f k a (omega arith)))
 
 -- where the reading stands: the letters before place i are read
 pub record Reading (symbols : List ℕ) (w r : Word) (i : ℕ) : Type 0 where
@@ -106,9 +98,6 @@ pub record Reading (symbols : List ℕ) (w r : Word) (i : ℕ) : Type 0 where
   pub read : symbols_in r ≡ in_symbols symbols (take i (symbols_in w)) ++ drop i (symbols_in w)
 
 module _ {symbols : List ℕ} {w : Word} (short : Short w) where
-  pub reading_start : Reading symbols w w 0
-  reading_start = record { len = refl; within = omega arith; read = refl }
-
   pub reading_next : {r x : Word} {i : ℕ} → Reading symbols w r i → i < w.len
       → x.len ≡ r.len → x.symbols ≡ set r.symbols i (letter_symbol symbols (get_or w.symbols i 0)) → Reading symbols w x (i + 1)
   reading_next {r} {x} {i} t h same put =
@@ -133,36 +122,16 @@ module _ {symbols : List ℕ} {w : Word} (short : Short w) where
         read = stored ∙ sym (append_assoc (in_symbols symbols (take i v)) (s ∷ []) (drop (suc i) v)) ∙ rw (after, add-one);
       }
 
-  pub reading_end : {r : Word} {i : ℕ} → Reading symbols w r i → w.len ≤ i → symbols_in r ≡ in_symbols symbols (symbols_in w)
-  reading_end {r} {i} t h =
-      let v : List ℕ = symbols_in w in
-      let size : length v ≡ w.len = symbols_length w (short_fits short) in
-      t.read ∙ rw (take_all i v (omega arith), drop_of_length-le v {i = i} (omega arith)) (append-nil (in_symbols symbols v))
-
--- what holds of a word's symbols holds at each place
-pub letters_below : (w : Word) → Short w → (bound : ℕ) → ((s : ℕ) → Memᴰ s (symbols_in w) → s < bound)
-    → (i : ℕ) → i < w.len → get_or w.symbols i 0 < bound
-letters_below w short bound f i h =
-    let size : length (symbols_in w) ≡ w.len = symbols_length w (short_fits short) in
-    rw (← get_or-take w.len w.symbols i 0 h) (f _ (get_or_in (symbols_in w) i 0 (omega arith)))
-
 -- a word found in letters, or none, in a graph and in the same in letters
-module _ {g t : Graph ℕ} {symbols : List ℕ} {base end : ℕ} (lettered : Lettered g t symbols base end) (p q : Pair) (k j : ℕ) where
-  pub found_below : (w : ShortWord) → first_telling_longer t p q (range base) k j ≡ some (symbols_in w.word)
-      → (i : ℕ) → i < w.word.len → get_or symbols (get_or w.word.symbols i 0) 0 < symbol_count
-  found_below w f i h =
-      let over : (s : ℕ) → Memᴰ s (symbols_in w.word) → s < base = λ s m. range_out base (longer_over t p q (range base) k j f s m) in
-      lettered.below _ (letters_below w.word w.short base over i h)
+module _ {g t : Graph ℕ} {symbols : List ℕ} {base end : ℕ} (lettered : Lettered g t symbols base end) (p q : Pair) (k j : ℕ)
+    (first : IsPair g.parties p) (second : IsPair g.parties q) (al : List ℕ) (up : Ascending ltb al)
+    (listed : (u v s : ℕ) → g.edge u v s ≡ true → Memᴰ s al) where
+  longer_in_symbols : first_telling_longer g p q al k j ≡ map (in_symbols symbols) (first_telling_longer t p q (range base) k j)
+  longer_in_symbols = telling_longer_in_symbols g t symbols base end lettered p q first second al up (λ u v s a b e. listed u v s e) k j
 
-  module _ (first : IsPair g.parties p) (second : IsPair g.parties q) (al : List ℕ) (up : Ascending ltb al)
-      (listed : (u v s : ℕ) → g.edge u v s ≡ true → Memᴰ s al) where
-    longer_in_symbols : first_telling_longer g p q al k j ≡ map (in_symbols symbols) (first_telling_longer t p q (range base) k j)
-    longer_in_symbols =
-        telling_longer_in_symbols g t symbols base end lettered p q first second al up (λ u v s a b e. listed u v s e) k j
+  pub found_in_symbols : (v x : List ℕ) → first_telling_longer t p q (range base) k j ≡ some v → x ≡ in_symbols symbols v
+      → first_telling_longer g p q al k j ≡ some x
+  found_in_symbols v x f same = longer_in_symbols ∙ ap (map (in_symbols symbols)) f ∙ ap some (sym same)
 
-    pub found_in_symbols : (v x : List ℕ) → first_telling_longer t p q (range base) k j ≡ some v → x ≡ in_symbols symbols v
-        → first_telling_longer g p q al k j ≡ some x
-    found_in_symbols v x f same = longer_in_symbols ∙ ap (map (in_symbols symbols)) f ∙ ap some (sym same)
-
-    pub none_in_symbols : first_telling_longer t p q (range base) k j ≡ none → first_telling_longer g p q al k j ≡ none
-    none_in_symbols f = longer_in_symbols ∙ ap (map (in_symbols symbols)) f
+  pub none_in_symbols : first_telling_longer t p q (range base) k j ≡ none → first_telling_longer g p q al k j ≡ none
+  none_in_symbols f = longer_in_symbols ∙ ap (map (in_symbols symbols)) f

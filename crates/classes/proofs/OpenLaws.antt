@@ -1,15 +1,9 @@
 -- A search that finds no path with fixed letters and any after them shows that no word begins with these letters.
 -- By induction on the letters. Assumes nothing.
-use mathlib.Core.Path.{◌≡◌, sym, ◌∙◌}
-use mathlib.Core.Logic.{by_cases}
-use mathlib.Core.Bool.{true, false}
-use mathlib.Core.List.{List, [], ◌∷◌, ◌++◌}
-use Prim.Native.Nat.{ℕ, suc, ◌+◌, ◌/◌, ◌^◌, ◌≤◌}
-use native.Mathlib.Decide.{ℕ_discrete}
-use native.Mathlib.Omega.{arith}
-use native.Mathlib.Numerals.{add-one}
-use lib.ListN.{length, replicate}
-use borrow.Author.Tests.{ne_eqb}
+use Rattle.std.proofs.Common.{◌≡◌, sym, ◌∙◌, true, false, List, [], ◌∷◌, ◌++◌, ℕ, suc, ◌+◌, ◌/◌, ◌^◌}
+use Rattle.std.proofs.Common.{◌≤◌, arith, add-one, length, replicate, ne_eqb, Result, is_ok}
+use Rattle.std.proofs.Math.Logic.{by_cases}
+use Rattle.std.proofs.Math.Decide.{ℕ_discrete}
 use Rattle.lists.proofs.Cases.{by_test, both}
 use Rattle.masks.specs.promises.Mask.{test_bit, bit_at, with_bit}
 use Rattle.masks.specs.promises.Table.{mask_at}
@@ -22,7 +16,6 @@ use Rattle.rebac.proofs.Reach.{has_walk, walk_has}
 use Rattle.search.specs.Word.{symbols_in}
 use Rattle.search.specs.promises.Search.{place_on, mask_graph, form_of, FoundAs}
 use Rattle.search.specs.promises.PairSearch.{table_graph, graph_of, pair_of, search_form}
-use Rattle.std.specs.Prelude.{Result, is_ok}
 use Rattle.search.specs.declared.pair.PairIn.{PairIn}
 use Rattle.search.specs.declared.pair.TwoPairsIn.{TwoPairsIn}
 use Rattle.search.specs.declared.path.NoPath.{NoPath}

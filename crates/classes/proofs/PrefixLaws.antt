@@ -1,13 +1,10 @@
 -- The law of prefixes: where the second pair has every word of fixed letters and then classes that the first has, it has every word of
 -- these letters and then letters below the classes. On a path of the first pair each letter has a class, and a path of the second
 -- along the classes is one along the letters. By induction on the letters. Assumes nothing.
-use mathlib.Core.Path.{◌≡◌, refl, ap, ◌∙◌}
-use mathlib.Core.Bool.{true, false}
-use mathlib.Core.List.{List, [], ◌∷◌, ◌++◌, map, append_assoc, append-nil, Memᴰ}
-use mathlib.Core.Option.{none}
-use Prim.Native.Nat.{ℕ, suc, ◌-◌, ◌≤◌, ◌<◌}
-use native.Mathlib.Omega.{arith}
-use lib.ListN.{length}
+use Rattle.std.proofs.Common.{◌≡◌, refl, ap, ◌∙◌, true, false, List, [], ◌∷◌, ◌++◌, map, append_assoc}
+use Rattle.std.proofs.Common.{append-nil, ℕ, suc, ◌-◌, ◌≤◌, ◌<◌, arith, length}
+use mathlib.Core.List.{Memᴰ}
+use Rattle.std.proofs.Math.Option.{none}
 use Rattle.lists.specs.Lists.{first_by, flat_map, range}
 use Rattle.lists.proofs.Cases.{by_test, by_mem, both}
 use Rattle.lists.proofs.ListLaws.{find_none, find_none_of, map_in, map_out, up_in, up_out}

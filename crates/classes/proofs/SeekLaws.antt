@@ -1,13 +1,9 @@
 -- The seeking turn by turn: the letters that may stand at a place are tried one after another, and the first word found is the answer.
 -- Assumes nothing.
-use mathlib.Core.Path.{◌≡◌, sym, ap, ◌∙◌, subst}
-use mathlib.Core.Bool.{true, false}
-use mathlib.Core.List.{List, [], ◌∷◌, ◌++◌, append_assoc, append-nil}
-use mathlib.Core.Option.{Option, none, some}
-use Prim.Native.Nat.{ℕ, zero, suc, ◌+◌, ◌-◌, ◌≤◌, ◌<◌}
-use native.Mathlib.Omega.{arith}
-use native.Mathlib.Numerals.{add-one}
-use lib.ListN.{length, replicate, set, length-append, length-replicate}
+use Rattle.std.proofs.Common.{◌≡◌, sym, ap, ◌∙◌, subst, true, false, List, [], ◌∷◌, ◌++◌, append_assoc, append-nil, ℕ, zero, suc}
+use Rattle.std.proofs.Common.{◌+◌, ◌-◌, ◌≤◌, ◌<◌, arith, add-one, length, replicate, set, length-append, None, Some, is_some}
+use Rattle.std.proofs.lemmas.List.{length-replicate}
+use Rattle.std.proofs.Math.Option.{Option, none, some}
 use Rattle.lists.specs.Lists.{first_by, up_from}
 use Rattle.rebac.specs.Matter.{Pair}
 use Rattle.rebac.specs.Paths.{Graph}
@@ -20,7 +16,7 @@ use Rattle.search.specs.declared.pair.TwoPairsIn.{TwoPairsIn}
 use Rattle.search.specs.declared.word.ShortWord.{ShortWord}
 use Rattle.search.specs.declared.word.Word.{Word}
 use Rattle.search.proofs.SearchLaws.{symbols_length, short_fits}
-use Rattle.std.specs.Prelude.{None, Some, Option as Maybe, is_some}
+use Rattle.std.specs.Prelude.{Option as Maybe}
 use Rattle.words.specs.promises.Next.{Places, WordAs}
 use Rattle.words.proofs.NextLaws.{symbol_places, word_not, word_as, or_found}
 use Rattle.letters.specs.promises.Letters.{Classed}

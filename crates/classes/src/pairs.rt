@@ -1,22 +1,17 @@
 // Two pairs in a graph in letters.
-ghost use Rattle.std.specs.Prelude.{◌≤◌};
-ghost use Rattle.limits.specs.Limits.{symbol_count};
 ghost use Rattle.letters.specs.promises.Following.{Follows};
 
-use letters::Letters;
+use letters::{Letters, Span};
 use masks::Row;
 use search::{Graph, TwoPairsIn};
 
-// Two pairs in a graph in letters, what stays the same along a seeking. The letters below `base` have their classes, if there are any, from
-// there to below `end`. `follow` has for each letter those that may follow it.
+// Two pairs in a graph in letters, what stays the same along a seeking. The letters below the span's base have
+// their classes among the others, if there are any. `follow` has for each letter those that may follow it.
 #[derive(Clone, Copy)]
 pub struct PairsInLetters {
     pub pairs: TwoPairsIn,
-    pub base: usize,
-    pub end: usize,
+    pub span: Span,
     pub follow: Row,
-    ghost order: { base ≤ end },
-    ghost few: { end ≤ symbol_count },
     ghost follows: { Follows pairs.graph.table follow },
 }
 
@@ -40,8 +35,7 @@ impl PairsInLetters {
         };
         PairsInLetters {
             pairs,
-            base: l.base,
-            end: l.end,
+            span: l.span,
             follow: l.follow,
         }
     }

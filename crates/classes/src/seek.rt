@@ -1,7 +1,7 @@
 // Telling words by prefixes: the first pair has them and the second lacks them.
 use crate::pairs::PairsInLetters;
-use masks::{has, with};
-use search::{Form, ShortWord};
+use masks::with;
+use search::{Form, ShortWord, Symbol};
 use word_test::has_word;
 
 impl PairsInLetters {
@@ -16,12 +16,14 @@ impl PairsInLetters {
     ghost use Rattle.classes.specs.promises.Prefixes.{own_pair, other_pair, SeekQuery, After, Opens, Sought};
 
     // Whether the first pair has the word and the second lacks it.
+    #[tactic(auto, unfolding(rebac::specs::promises::Telling::tells))]
     fn tells(&self, w: ShortWord) -> bool
         ensures { result ≡ tells (graph_of self.now.pairs.graph) (own_pair self.now.pairs) (other_pair self.now.pairs) (symbols_in w.word) }
     {
         has_word(&self.pairs.own(), w) && !has_word(&self.pairs.other(), w)
     }
 
+    // Kept: `at` is held to the word, as an index to its slice's length; the place of a `search::Form` may be the word's end. So below too.
     // The letters that may stand at place `at` after the one before it; at the first place all.
     fn letters_after(&self, w: ShortWord, at: usize) -> u32
         requires { at < w.word.len }
@@ -30,7 +32,7 @@ impl PairsInLetters {
         if at == 0 {
             return u32::MAX;
         }
-        self.follow.masks[w.word.symbols[at - 1] as usize]
+        self.follow.masks[w.symbol(at - 1).number as usize]
     }
 
     // The letters from `low` to below `high` that may stand at place `at` of a path, any letters after it. At the last place no path is
@@ -47,9 +49,10 @@ impl PairsInLetters {
         let own = self.pairs.own();
         let mut leads: u32 = 0;
         for c in low..high {
-            if has(after, c as u32) {
+            let letter = Symbol { number: c as u8 };
+            if letter.is_in(after) {
                 let form = Form {
-                    word: w.put(at, c as u8),
+                    word: w.put(at, letter),
                     fixed: at + 1,
                 };
                 if own.search(form).is_ok() {
@@ -74,13 +77,14 @@ impl PairsInLetters {
             return None;
         }
         let next = at + 1;
-        if high < self.end && self.seek(w, at, high, self.end).is_none() {
+        if high < self.span.end && self.seek(w, at, high, self.span.end).is_none() {
             return None;
         }
         let leads = self.letters_open(w, at, low, high);
         for c in low..high {
-            if has(leads, c as u32) {
-                let word = self.seek(w.put(at, c as u8), next, low, high);
+            let letter = Symbol { number: c as u8 };
+            if letter.is_in(leads) {
+                let word = self.seek(w.put(at, letter), next, low, high);
                 if word.is_some() {
                     return word;
                 }
@@ -92,10 +96,10 @@ impl PairsInLetters {
     // The first telling word of `len` letters below the base; the others are their classes, if there are any.
     pub fn first_telling(&self, len: usize) -> Option<ShortWord>
         requires long { len ≤ longest_word }
-        requires classed { self.now.base < self.now.end → Classed (graph_of self.now.pairs.graph) self.now.base self.now.end }
+        requires classed { let s = self.now.span in s.base < s.end → Classed (graph_of self.now.pairs.graph) s.base s.end }
         ensures { WordAs (first_telling (graph_of self.now.pairs.graph) (own_pair self.now.pairs) (other_pair self.now.pairs)
-            (range self.now.base) len) result }
+            (range self.now.span.base) len) result }
     {
-        self.seek(ShortWord::zeros(len), 0, 0, self.base)
+        self.seek(ShortWord::zeros(len), 0, 0, self.span.base)
     }
 }

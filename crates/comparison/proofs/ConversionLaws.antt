@@ -1,9 +1,6 @@
 -- "Same" and the verdict: a list that gets "same" converts the file, the mined list gets "same",
 -- and no list does where the verdict is "not convertible".
-use mathlib.Core.Path.{◌≡◌, refl, sym, ap, ◌∙◌}
-use mathlib.Core.Logic.{◌↔◌}
-use mathlib.Core.List.{List}
-use Prim.Native.Nat.{ℕ}
+use Rattle.std.proofs.Common.{◌≡◌, refl, sym, ap, ◌∙◌, ◌↔◌, List, ℕ, None, Ok}
 use Rattle.lists.proofs.Cases.{clash}
 use Rattle.rebac.specs.Matter.{Matter}
 use Rattle.rebac.specs.Words.{Word}
@@ -24,7 +21,6 @@ use Rattle.conversion.specs.Calls.{list_of, bytes_of, verdict_call}
 use Rattle.conversion.specs.declared.verdict.Verdict.TheVariants.{Convertible, NoWord, Rival}
 use Rattle.conversion.proofs.Demand3.{convertible_verdict, verdict_exact}
 use Rattle.comparison.specs.Compare.{compare_call}
-use Rattle.std.specs.Prelude.{None, Ok}
 use Rattle.comparison.proofs.ReplyLaws.{agree_permits, same_exact}
 
 module _ (f : List ℕ) (e : check_of f ≡ Ok tt) where

@@ -1,10 +1,7 @@
 -- The first difference of a matter and a list, both ways: there is none exactly where they permit the same pairs,
 -- and it is a pair exactly where only one of them permits it and they agree at every earlier one.
-use mathlib.Core.Path.{◌≡◌, refl, sym, ap, ◌∙◌}
-use mathlib.Core.Logic.{◌↔◌, ⊎_elim}
-use mathlib.Core.Bool.{Bool, true, false, not, ◌&&◌, ◌||◌}
-use mathlib.Core.List.{List}
-use mathlib.Core.Option.{none, some}
+use Rattle.std.proofs.Common.{◌≡◌, refl, sym, ap, ◌∙◌, ◌↔◌, ⊎_elim, Bool, true, false, not, ◌&&◌, ◌||◌, List}
+use Rattle.std.proofs.Math.Option.{none, some}
 use Rattle.lists.proofs.Cases.{by_test, by_found, clash, both}
 use Rattle.lists.proofs.ListLaws.{find_none, find_none_of, find_some, find_in}
 use Rattle.lists.proofs.OrderLaws.{first_least}

@@ -1,9 +1,6 @@
 -- Lists with the same terms get the same replies: whether a list permits a pair depends on its terms as a set of sets of words.
 -- A reordering has the same terms and stays legal.
-use mathlib.Core.Path.{◌≡◌, ap}
-use mathlib.Core.List.{List}
-use Prim.Native.Nat.{ℕ}
-use native.Mathlib.Omega.{arith}
+use Rattle.std.proofs.Common.{◌≡◌, ap, List, ℕ, arith}
 use Rattle.lists.specs.Reorder.{ReorderedTerms, SameTerms}
 use Rattle.lists.proofs.Pointwise.{find_same}
 use Rattle.lists.proofs.ReorderLaws.{reordered_length, permuted_members, reordered_terms, reordered_sets, terms_alike}

@@ -1,12 +1,8 @@
 -- What each reply of the call says of the permit call and of the table, both ways:
 -- permit answers by the same list, and the reply names the first difference.
-use mathlib.Core.Path.{◌≡◌, refl, sym, ap, ◌∙◌}
-use mathlib.Core.Logic.{◌↔◌}
-use mathlib.Core.Bool.{Bool, true, false, not}
-use mathlib.Core.List.{List}
-use mathlib.Core.Option.{Option as Sought, none, some}
-use Prim.Native.Nat.{ℕ, ◌≤◌}
-use native.Mathlib.Omega.{arith}
+use Rattle.std.proofs.Common.{◌≡◌, refl, sym, ap, ◌∙◌, ◌↔◌, Bool, true, false, not, List}
+use Rattle.std.proofs.Common.{ℕ, ◌≤◌, arith, Option, Some, None, Result, Ok, Err}
+use Rattle.std.proofs.Math.Option.{Option as Sought, none, some}
 use Rattle.lists.proofs.Cases.{by_test, by_found, clash}
 use Rattle.rebac.specs.Matter.{Matter, Pair, pair, IsPair, permitted}
 use Rattle.rebac.specs.Words.{Word}
@@ -28,7 +24,6 @@ use Rattle.conversion.specs.Demands.{FirstPair}
 use Rattle.conversion.proofs.ReplyLaws.{pair_same}
 use Rattle.comparison.specs.Compare.{first_difference, side_of, answer_for, comparison, compare_by, compare_in, compare_call, said_compare}
 use Rattle.comparison.specs.Replies.{decoded_for, Agree, Parting}
-use Rattle.std.specs.Prelude.{Option, Some, None, Result, Ok, Err}
 use Rattle.comparison.specs.declared.call.Difference.{Difference}
 use Rattle.comparison.specs.declared.call.Difference.TheVariants.{OnlyFile, OnlyList}
 use Rattle.comparison.proofs.DifferenceLaws.{no_difference, first_apart, earlier_together, apart_first}

@@ -2,5 +2,6 @@
 #![tactic(auto)]
 
 mod call;
+mod difference;
 
 pub use call::{Difference, compare_call};

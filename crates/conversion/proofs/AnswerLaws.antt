@@ -1,14 +1,7 @@
 -- What the two calls answer for a matter, by the outcome of their tests; an archive's list and verdict are its matter's.
-use mathlib.Core.Path.{◌≡◌, refl, sym, ap, ◌∙◌}
-use mathlib.Core.Bool.{Bool, true, false, ◌&&◌}
-use mathlib.Core.List.{List, ◌++◌}
-use mathlib.Core.Logic.{◌⊎◌, ⊎_elim}
-use Prim.Native.Nat.{ℕ, ◌/◌, ◌%◌, ◌≤◌, ◌<◌}
-use native.Mathlib.Omega.{arith}
-use lib.ListN.{length, take, drop, length-append}
-use lib.Seq.{take_at}
-use lib.Dec.{leb}
-use borrow.Author.Tests.{le-leb, lt-leb}
+use Rattle.std.proofs.Common.{◌≡◌, refl, sym, ap, ◌∙◌, Bool, true, false, ◌&&◌, List, ◌++◌, ◌⊎◌, ⊎_elim, ℕ, ◌/◌, ◌%◌, ◌≤◌}
+use Rattle.std.proofs.Common.{◌<◌, arith, length, take, drop, length-append, take_at, leb, le-leb, Result, Ok, Err, IsOk}
+use Rattle.std.proofs.lemmas.Bool.{lt-leb}
 use Rattle.masks.specs.promises.Table.{mask_in}
 use Rattle.masks.specs.declared.Row.{Row}
 use Rattle.rebac.specs.Matter.{Matter, Pair, pair}
@@ -18,12 +11,13 @@ use Rattle.rebac.specs.Verdict.{convertible, verdict, is_convertible}
 use Rattle.rebac.specs.Mining.{mine}
 use Rattle.rebac.specs.Existence.{problem_of, verdict_of, mined_list, permits_pair}
 use Rattle.rebac.proofs.Conversion.{permits_one, mined_ones}
+use Rattle.house_layout.proofs.Exits.{left_with}
 use Rattle.house_layout.specs.declared.reply.Refusal.TheVariants.{Length, Field, Link, Again, Unreached, Owner, Target, Kind, Repeat}
 use Rattle.house_layout.specs.declared.reply.Refusal.TheVariants.{RuleList, PartyPair, GivenWord, Scratch, Inconvertible, Output}
 use Rattle.house_file.specs.Check.{check_of}
 use Rattle.house_file.proofs.FileRefusals.{OfFile, file_refusals}
 use Rattle.house_layout.specs.declared.reply.Refusal.{Refusal}
-use Rattle.graph.specs.declared.Archive.{Archive}
+use Rattle.graph.specs.declared.archive.Archive.{Archive}
 use Rattle.graph.specs.promises.Archive.{Shows}
 use Rattle.graph.specs.Legal.{is_pair}
 use Rattle.mining.specs.promises.Building.{problem_in}
@@ -36,27 +30,26 @@ use Rattle.conversion.specs.declared.verdict.Verdict.{Verdict as VerdictValue}
 use Rattle.mining.proofs.ArchiveLaws.{problem_shown}
 use Rattle.conversion.specs.Calls.{list_of, bytes_of, verdict_reply, verdict_in, table_of, refuses, mining_in, mining_scratch, Mined}
 use Rattle.conversion.specs.promises.Passes.{archive_bytes, archive_verdict, verdict_by, row_bytes, ListWritten, JudgedAs}
-use Rattle.std.specs.Prelude.{Result, Ok, Err, IsOk}
 use Rattle.conversion.specs.declared.verdict.Judged.{Judged}
 use Rattle.conversion.specs.declared.verdict.Hindered.{Hindered}
 use Rattle.conversion.specs.declared.verdict.Verdict.TheVariants.{Convertible}
 use Rattle.conversion.proofs.TableLaws.{clear_bytes, marks_bytes}
 use Rattle.conversion.proofs.ReplyLaws.{reply_convertible, reply_no_word, reply_rival}
 
-module _ {M : Matter} {a : Archive} (h : Shows M a) where
+module _ (a : Archive) {M : Matter} (h : Shows M a) where
   pub bytes_shown : archive_bytes a ≡ bytes_of M
   unfolding archive_bytes bytes_of list_of mined_list
-  bytes_shown = rw (problem_shown h) refl
+  bytes_shown = rw (problem_shown a h) refl
 
   pub verdict_shown : archive_verdict a ≡ verdict_in M
   unfolding archive_verdict verdict_in verdict_of
-  verdict_shown = ap (λ (b : List ℕ). verdict_reply (length b) (verdict (problem_in a))) bytes_shown ∙ rw (problem_shown h) refl
+  verdict_shown = ap (λ (b : List ℕ). verdict_reply (length b) (verdict (problem_in a))) bytes_shown ∙ rw (problem_shown a h) refl
 
   -- the table of the mined list, from its marks
   table_shown : (r : Row) → PairMarks a (mine (problem_in a)) r → row_bytes r ≡ table_of M
   unfolding table_of list_of mined_list
   table_shown r m =
-      let e = problem_shown h in
+      let e = problem_shown a h in
       marks_bytes r (λ k. is_pair M.parties (k / 32) (k % 32) && permits_pair M (list_of M) (pair (k / 32) (k % 32)))
       (λ k. m (k / 32) (k % 32)
       ∙ ap (λ (n : ℕ). is_pair n (k / 32) (k % 32) && permits (problem_in a) (mine (problem_in a)) (pair (k / 32) (k % 32))) h.parties
@@ -166,3 +159,10 @@ kept_at Owner h old = refl
 
 pub file_keeps : (f : List ℕ) (x : Refusal) → check_of f ≡ Err x → (old : List ℕ) → mining_scratch (refuses x) old ≡ old
 file_keeps f x e old = kept_at x (file_refusals f x e) old
+
+-- by these, goals of `write_list`, of `mining_call` and of `convert` are found
+pub ruleset list_laws = (list_taken, list_size, judged_ok)
+
+pub ruleset file_laws = (left_with, file_keeps)
+
+pub ruleset convert_laws = (left_with, verdict_shown, never_hindered)

@@ -1,15 +1,11 @@
 -- Demand 3 of the verdict, mining, permit and path calls: the existence theorem of rebac,
 -- carried to the replies of the calls by the definitions that their contracts cite.
-use mathlib.Core.Path.{◌≡◌, refl, sym, ap, ◌∙◌, subst}
-use mathlib.Core.Logic.{◌⊎◌, inl, inr, ⊎_elim}
-use mathlib.Core.Bool.{true, false, not, ◌&&◌}
+use Rattle.std.proofs.Common.{◌≡◌, refl, sym, ap, ◌∙◌, subst, ◌⊎◌, inl, inr, ⊎_elim, true, false, not, ◌&&◌, List, ◌∷◌, ◌++◌}
+use Rattle.std.proofs.Common.{ℕ, ◌+◌, ◌*◌, ◌/◌, ◌%◌, ◌≤◌, ◌<◌, arith, Some, Ok, Err, length, drop, get_or, leb-true, le-leb}
+use Rattle.std.proofs.lemmas.Bool.{lt-leb, not-true}
 use mathlib.Core.List.Memᴰ
-use mathlib.Core.List.{List, ◌∷◌, ◌++◌, Memᴰ}
-use Prim.Native.Nat.{ℕ, ◌+◌, ◌*◌, ◌/◌, ◌%◌, ◌≤◌, ◌<◌}
-use native.Mathlib.Omega.{arith}
-use Rattle.std.specs.Prelude.{Some, Ok, Err}
-use lib.ListN.{length, drop, get_or, get_or-append}
-use borrow.Author.Tests.{leb-true, le-leb, lt-leb, not-true}
+use mathlib.Core.List.{Memᴰ}
+use Rattle.std.proofs.Math.ListN.{get_or-append}
 use Rattle.lists.specs.Lists.{up_from, range}
 use Rattle.lists.proofs.Cases.{by_test, by_found, clash, both, and_left, and_right}
 use Rattle.lists.proofs.ListLaws.{up_length, First, first_in, all_in, all_of_lem, map_out}
@@ -293,8 +289,8 @@ module _ (f : List ℕ) (e : check_of f ≡ Ok tt) where
 
   -- convertible: mining with scratch and output enough writes the list of that length,
   -- and permit on it and scratch give back the permit table
-  pub mining_exact : (k : ℕ) → verdict_call f ≡ Ok (reply.Convertible k) → (scratch output : List ℕ) → 1024 ≤ length scratch → k ≤ length output
-      → MinesList f k scratch output
+  pub mining_exact : (k : ℕ) → verdict_call f ≡ Ok (reply.Convertible k) → (scratch output : List ℕ)
+      → 1024 ≤ length scratch → k ≤ length output → MinesList f k scratch output
   unfolding mining_call mining_in
   mining_exact k v scratch output s o =
       let r = convertible_verdict k v in

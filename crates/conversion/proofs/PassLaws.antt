@@ -1,12 +1,7 @@
 -- Going through the pairs by number: the list so far and the pairs left give the definition's list and verdict.
-use mathlib.Core.Path.{◌≡◌, refl, sym, ap, ◌∙◌}
-use mathlib.Core.Bool.{true, false, not, ◌&&◌}
-use mathlib.Core.List.{List, [], ◌∷◌, ◌++◌}
-use mathlib.Core.Option.{Option, none, some}
-use Rattle.std.specs.Prelude.{Err}
-use Prim.Native.Nat.{ℕ, ◌+◌, ◌*◌, ◌≤◌, ◌<◌}
-use native.Mathlib.Omega.{arith}
-use lib.ListN.{length, length-append}
+use Rattle.std.proofs.Common.{◌≡◌, refl, sym, ap, ◌∙◌, true, false, not, ◌&&◌, List, [], ◌∷◌}
+use Rattle.std.proofs.Common.{◌++◌, Err, ℕ, ◌+◌, ◌*◌, ◌≤◌, ◌<◌, arith, length, length-append}
+use Rattle.std.proofs.Math.Option.{Option, none, some}
 use Rattle.lists.specs.Lists.{any_of, first_by, flat_map}
 use Rattle.lists.proofs.Cases.{by_test, clash, and_left, and_right, and_false}
 use Rattle.lists.proofs.OrderLaws.{length_map}
@@ -14,7 +9,7 @@ use Rattle.lists.proofs.Pointwise.{map_append}
 use Rattle.masks.specs.promises.Table.{mask_in}
 use Rattle.masks.specs.declared.Row.{Row}
 use Rattle.masks.proofs.MaskLaws.{zero_bit}
-use Rattle.rebac.specs.Matter.{Matter, Pair}
+use Rattle.rebac.specs.Matter.{Pair}
 use Rattle.rebac.specs.Words.{Word}
 use Rattle.rebac.specs.Rules.{Problem, Term, RuleList, permits}
 use Rattle.rebac.specs.Verdict.{Verdict, convertible, no_word, rivalled, words_of, ruling, rival, judge, verdict}
@@ -23,8 +18,7 @@ use Rattle.rebac.specs.promises.WhileMining.{passing, verdict_from}
 use Rattle.rebac.specs.Existence.{plain_term, plain_list}
 use Rattle.rebac.proofs.MiningLaws.{term_owned}
 use Rattle.rebac.proofs.WhileMining.{judge_from_lem, verdict_while_mining}
-use Rattle.graph.specs.declared.Archive.{Archive}
-use Rattle.graph.specs.promises.Archive.{Shows}
+use Rattle.graph.specs.declared.archive.Archive.{Archive}
 use Rattle.graph.specs.Legal.{is_pair}
 use Rattle.fields.specs.Numbers.{u16_bytes}
 use Rattle.rule_bytes.specs.ListBytes.{encode_term, encode_list}
@@ -109,30 +103,28 @@ terms_grow S r (p ∷ ps) =
     (λ e. rw (e, mine_from) (omega (arith, terms_grow S (r ++ (term_of S p ∷ [])) ps, terms_add_size r (term_of S p))))
     (λ e. rw (e, mine_from) (terms_grow S r ps))
 
-pub term_fits : {M : Matter} {a : Archive} → Shows M a → (p : Pair) → length (term_bytes a p) ≤ 31778
+pub term_fits : (a : Archive) (p : Pair) → length (term_bytes a p) ≤ 31778
 unfolding term_bytes
-term_fits {a = a} s p =
+term_fits a p =
     let t = term_of (problem_in a) p in
-    let f = owned_fits s p t (term_owned (problem_in a) p) (words_bounded s p) in
-    term_bound (plain_term t) (omega (arith, length_map (λ i. i.word) t, words_bounded s p)) (λ w m. (f.words w m).len)
+    let f = owned_fits a p t (term_owned (problem_in a) p) (words_bounded a p) in
+    term_bound (plain_term t) (omega (arith, length_map (λ i. i.word) t, words_bounded a p)) (λ w m. (f.words w m).len)
 
 -- before the pair of number k: the list so far, its marks and its size
 pub record Passing (a : Archive) (list : RuleList Word) (row : Row) (size k : ℕ) : Type 0 where
-  pub parties : a.parties ≤ 32
   pub marks : PairMarks a list row
-  pub mined : mine_from (problem_in a) list (pairs_from a.parties k) ≡ mine (problem_in a)
-  pub verdict : verdict_from (problem_in a) list (pairs_from a.parties k) ≡ verdict (problem_in a)
+  pub mined : mine_from (problem_in a) list (pairs_from a.graph.parties k) ≡ mine (problem_in a)
+  pub verdict : verdict_from (problem_in a) list (pairs_from a.graph.parties k) ≡ verdict (problem_in a)
   pub sized : size ≡ 2 + length (terms_of list)
   pub bound : size ≤ 2 + k * 31778
   pub bounded : length list ≤ k
 
-pub pass_start : {a : Archive} {row : Row} → a.parties ≤ 32 → ((v : ℕ) → mask_in row v ≡ 0) → Passing a [] row 2 0
+pub pass_start : (a : Archive) {row : Row} → ((v : ℕ) → mask_in row v ≡ 0) → Passing a [] row 2 0
 unfolding mine permits any_of flat_map
-pass_start {a} parties h =
-    let n : pairs_from a.parties 0 ≡ (problem_in a).pairs = pairs_numbered a.parties parties ∙ sym (problem_pairs a) in
+pass_start a h =
+    let n : pairs_from a.graph.parties 0 ≡ (problem_in a).pairs = pairs_numbered a.graph.parties a.graph.within ∙ sym (problem_pairs a) in
     record {
-      parties = parties;
-      marks = λ u v. rw (h u, zero_bit v) (sym (and_false (is_pair a.parties u v) refl));
+      marks = λ u v. rw (h u, zero_bit v) (sym (and_false (is_pair a.graph.parties u v) refl));
       mined = rw n refl;
       verdict = rw n (verdict_while_mining (problem_in a));
       sized = refl;
@@ -141,56 +133,53 @@ pass_start {a} parties h =
     }
 
 module _ {a : Archive} {l : RuleList Word} {row : Row} {size k : ℕ} (P : Passing a l row size k) where
-  pub pass_small : k < 32 * a.parties → k < 1024
-  pass_small turn = omega (arith, P.parties)
+  pub pass_small : k < 32 * a.graph.parties → k < 1024
+  pass_small turn = omega (arith, a.graph.within)
 
   -- the pair is passed over
-  pub pass_over : k < 32 * a.parties → due a l k ≡ false → Passing a l row size (k + 1)
+  pub pass_over : k < 32 * a.graph.parties → due a l k ≡ false → Passing a l row size (k + 1)
   unfolding due
   pass_over turn e =
-      by_test (is_pair_at a.parties k)
+      by_test (is_pair_at a.graph.parties k)
       (λ i.
       let f : ((problem_in a).permitted (pair_at k) && not (permits (problem_in a) l (pair_at k))) ≡ false = rw i at e in
       record {
-        parties = P.parties;
         marks = P.marks;
         mined =
-            sym (mine_pass (problem_in a) l (pair_at k) (pairs_from a.parties (k + 1)) f)
-            ∙ (rw (pairs_take a.parties k (pass_small turn) i) at P.mined);
+            sym (mine_pass (problem_in a) l (pair_at k) (pairs_from a.graph.parties (k + 1)) f)
+            ∙ (rw (pairs_take a.graph.parties k (pass_small turn) i) at P.mined);
         verdict =
-            sym (verdict_pass (problem_in a) l (pair_at k) (pairs_from a.parties (k + 1)) f)
-            ∙ (rw (pairs_take a.parties k (pass_small turn) i) at P.verdict);
+            sym (verdict_pass (problem_in a) l (pair_at k) (pairs_from a.graph.parties (k + 1)) f)
+            ∙ (rw (pairs_take a.graph.parties k (pass_small turn) i) at P.verdict);
         sized = P.sized;
         bound = omega (arith, P.bound);
         bounded = omega (arith, P.bounded);
       })
       (λ i. record {
-        parties = P.parties;
         marks = P.marks;
-        mined = rw (pairs_skip a.parties k (pass_small turn) i) at P.mined;
-        verdict = rw (pairs_skip a.parties k (pass_small turn) i) at P.verdict;
+        mined = rw (pairs_skip a.graph.parties k (pass_small turn) i) at P.mined;
+        verdict = rw (pairs_skip a.graph.parties k (pass_small turn) i) at P.verdict;
         sized = P.sized;
         bound = omega (arith, P.bound);
         bounded = omega (arith, P.bounded);
       })
 
   -- past the last pair
-  pub pass_end : 32 * a.parties ≤ k → (l ≡ mine (problem_in a)) × (verdict (problem_in a) ≡ convertible)
+  pub pass_end : 32 * a.graph.parties ≤ k → (l ≡ mine (problem_in a)) × (verdict (problem_in a) ≡ convertible)
   unfolding mine_from verdict_from
   pass_end past =
-      let e = pairs_end a.parties k past in
+      let e = pairs_end a.graph.parties k past in
       (rw e at P.mined, sym (rw e at P.verdict))
 
 -- a due pair in its turn
 pub record DueTurn : Type 0 where
   pub a : Archive
-  pub shown : (M : Matter) × Shows M a
   pub list : RuleList Word
   pub row : Row
   pub size : ℕ
   pub k : ℕ
   pub pass : Passing a list row size k
-  pub turn : k < 32 * a.parties
+  pub turn : k < 32 * a.graph.parties
   pub due : due a list k ≡ true
 
 module _ (D : DueTurn) where
@@ -208,18 +197,18 @@ module _ (D : DueTurn) where
   list_with = D.list ++ (own_term ∷ [])
 
   abbrev later : List Pair
-  later = pairs_from D.a.parties (D.k + 1)
+  later = pairs_from D.a.graph.parties (D.k + 1)
 
-  pair_legal : is_pair_at D.a.parties D.k ≡ true
+  pair_legal : is_pair_at D.a.graph.parties D.k ≡ true
   unfolding due
-  pair_legal = and_left (is_pair_at D.a.parties D.k) _ D.due
+  pair_legal = and_left (is_pair_at D.a.graph.parties D.k) _ D.due
 
   meets_test : (S.permitted own_pair && not (permits S D.list own_pair)) ≡ true
   unfolding due
-  meets_test = and_right (is_pair_at D.a.parties D.k) _ D.due
+  meets_test = and_right (is_pair_at D.a.graph.parties D.k) _ D.due
 
-  split : pairs_from D.a.parties D.k ≡ own_pair ∷ later
-  split = pairs_take D.a.parties D.k (pass_small D.pass D.turn) pair_legal
+  split : pairs_from D.a.graph.parties D.k ≡ own_pair ∷ later
+  split = pairs_take D.a.graph.parties D.k (pass_small D.pass D.turn) pair_legal
 
   longer : mine_from S list_with later ≡ mine S
   longer = sym (mine_take S D.list own_pair later meets_test) ∙ (rw split at D.pass.mined)
@@ -231,7 +220,6 @@ module _ (D : DueTurn) where
   pub due_query : (at size : ℕ) → at + length (term_bytes D.a own_pair) ≤ size → DueQuery D.a D.row D.k at size
   due_query at size room = record {
     number = pass_small D.pass D.turn;
-    shown = D.shown;
     list = D.list;
     marks = D.pass.marks;
     due = D.due;
@@ -243,12 +231,11 @@ module _ (D : DueTurn) where
       → Passing D.a list_with more (D.size + length (term_bytes D.a own_pair)) (D.k + 1)
   unfolding term_bytes
   pass_term j more m = record {
-    parties = D.pass.parties;
     marks = m;
     mined = longer;
     verdict = rw j at onward;
     sized = omega (arith, D.pass.sized, terms_add_size D.list own_term);
-    bound = omega (arith, D.pass.bound, term_fits D.shown.1 own_pair);
+    bound = omega (arith, D.pass.bound, term_fits D.a own_pair);
     bounded = omega (arith, D.pass.bounded, length-append D.list (own_term ∷ []));
   }
 

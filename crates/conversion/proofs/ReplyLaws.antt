@@ -1,6 +1,5 @@
 -- What a verdict's reply says of the verdict, and that replies are known by their numbers and values: by their cases.
-use mathlib.Core.Path.{◌≡◌, refl, ap}
-use Prim.Native.Nat.{ℕ}
+use Rattle.std.proofs.Common.{◌≡◌, refl, ap, ℕ, Result, Ok, Err}
 use Rattle.lists.proofs.Cases.{clash}
 use Rattle.rebac.specs.Matter.{Pair}
 use Rattle.rebac.specs.Verdict.{Verdict, convertible, no_word, rivalled}
@@ -9,7 +8,6 @@ use Rattle.mining.specs.Values.{pair_value, pair_in}
 use Rattle.mining.specs.declared.build.Pair.{Pair as PairValue}
 use Rattle.house_layout.proofs.RefusalNumbers.{refusal_said}
 use Rattle.conversion.specs.Calls.{verdict_reply, said_verdict, said_mining}
-use Rattle.std.specs.Prelude.{Result, Ok, Err}
 use Rattle.conversion.specs.declared.verdict.Verdict.{Verdict as VerdictValue}
 use Rattle.conversion.specs.declared.verdict.Verdict.TheVariants as reply
 

@@ -1,10 +1,6 @@
 -- How long a term and a list can be: each part's greatest length, added up.
-use Prim.Native.Nat.{ℕ, ◌+◌, ◌*◌, ◌≤◌}
-use mathlib.Core.List.{List, [], ◌∷◌, Memᴰ}
-use mathlib.Core.Path.{refl}
-use native.Mathlib.Omega.{arith}
-use native.Mathlib.Nat.{suc-mul}
-use lib.ListN.{length, length-append}
+use Rattle.std.proofs.Common.{ℕ, ◌+◌, ◌*◌, ◌≤◌, List, [], ◌∷◌, refl, arith, suc-mul, length, length-append}
+use mathlib.Core.List.{Memᴰ}
 use Rattle.lists.specs.Lists.{flat_map}
 use Rattle.lists.specs.Order.{sum_of}
 use Rattle.lists.proofs.OrderLaws.{length_flat}

@@ -1,10 +1,7 @@
 -- The bytes of a row of masks one after another, and which they are for the marks of a list.
-use mathlib.Core.Path.{◌≡◌, refl, sym, ap, ◌∙◌}
-use mathlib.Core.Bool.{Bool}
-use mathlib.Core.List.{List, [], ◌∷◌, ◌++◌, map}
-use Prim.Native.Nat.{ℕ, zero, suc, ◌+◌, ◌/◌, ◌%◌, ◌<◌}
-use native.Mathlib.Omega.{arith}
-use lib.ListN.{length, drop, set, replicate}
+use Rattle.std.proofs.Common.{◌≡◌, refl, sym, ap, ◌∙◌, Bool, true, false, List, [], ◌∷◌, ◌++◌, map, ℕ, zero, suc, ◌+◌, ◌/◌, ◌%◌, ◌<◌, arith}
+use Rattle.std.proofs.Common.{length, drop, set, replicate}
+use Rattle.std.specs.Int.{from_bool}
 use Rattle.lists.specs.Lists.{range, up_from}
 use Rattle.lists.proofs.OrderLaws.{length_map}
 use Rattle.lists.proofs.Pointwise.{up_append, map_same, map_append}
@@ -38,6 +35,10 @@ bytes_more r k =
     ∙ map_append (byte_at r) (up_from 0 k) (up_from (0 + k) 1)
     ∙ ap (λ (i : ℕ). map (byte_at r) (up_from 0 k) ++ (byte_at r i ∷ [])) z
 
+pub bit_byte : (b : Bool) → from_bool b ≡ one_if b
+bit_byte true = refl
+bit_byte false = refl
+
 pub table_start : (b : List ℕ) (r : Row) → b ≡ put b 0 (bytes_to r 0)
 unfolding bytes_to range up_from put
 table_start b r = refl
@@ -52,9 +53,9 @@ table_more b out r k v h e q =
     ∙ ap (λ (i : ℕ). put b 0 (bytes_to r k ++ (i ∷ []))) q
     ∙ ap (put b 0) (sym (bytes_more r k))
 
-pub table_end : (b out : List ℕ) (r : Row) → out ≡ put b 0 (bytes_to r 1024) → out ≡ row_bytes r ++ drop 1024 b
+pub table_end : (b out : List ℕ) (r : Row) (k : ℕ) → k ≡ 1024 → out ≡ put b 0 (bytes_to r k) → out ≡ row_bytes r ++ drop 1024 b
 unfolding bytes_to row_bytes
-table_end b out r e = e ∙ put_first b (bytes_to r 1024) ∙ ap (λ (i : ℕ). bytes_to r 1024 ++ drop i b) (bytes_length r 1024)
+table_end b out r k end e = rw end at e ∙ put_first b (bytes_to r 1024) ∙ ap (λ (i : ℕ). bytes_to r 1024 ++ drop i b) (bytes_length r 1024)
 
 -- a row of no marks is 1,024 bytes 0
 zeros_of : (r : Row) → ((v : ℕ) → mask_in r v ≡ 0) → (a k : ℕ) → map (byte_at r) (up_from a k) ≡ replicate k 0
@@ -71,3 +72,6 @@ pub marks_bytes : (r : Row) (f : ℕ → Bool) → ((k : ℕ) → test_bit (mask
     → row_bytes r ≡ map (λ k. one_if (f k)) (range 1024)
 unfolding row_bytes
 marks_bytes r f h = map_same (byte_at r) (λ k. one_if (f k)) (range 1024) (λ k m. ap one_if (h k))
+
+-- by these, goals of `put_table` are found
+pub ruleset table_laws = (table_start, table_more, bit_byte)

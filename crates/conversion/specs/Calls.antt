@@ -1,5 +1,6 @@
 -- The verdict and mining calls (01, "The calls"): what each answers and writes, for any bytes and buffers.
-use Rattle.std.specs.Prelude.{ℕ, ◌/◌, ◌%◌, ◌≡◌, Bool, true, false, ◌&&◌, List, [], ◌∷◌, ◌++◌, map, length, drop, replicate, leb, Result, Ok, Err}
+use Rattle.std.specs.Prelude.{ℕ, ◌/◌, ◌%◌, ◌≡◌, Bool, true, false, ◌&&◌, List, [], ◌∷◌, ◌++◌, map, length, drop, replicate, leb, Result, Ok}
+use Rattle.std.specs.Prelude.{Err}
 use Rattle.lists.specs.Lists.{range}
 use Rattle.limits.specs.Limits.{most_parties, pair_numbers, scratch_size}
 use Rattle.rebac.specs.Matter.{Matter, Pair, pair}

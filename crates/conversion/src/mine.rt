@@ -16,10 +16,11 @@ use masks::Row;
 // The longest list that is kept while the verdict is found. A longer one is built again.
 const KEPT_LIST: usize = 65536;
 
-// The list of a convertible archive, and the pairs that it permits. `list` and `judged` have them where the list is not too long to be kept.
-fn write_list(a: Archive, list: &[u8], judged: Judged, out: &mut [u8]) -> Row
-    requires { ListRoom a list.now judged (length out.old) }
-    ensures { ListWritten a out.old out.new result }
+// The list of a convertible archive, and the pairs that it permits: `list` and `judged` have them where the list is not too long to keep.
+#[tactic(auto, using(crate::proofs::AnswerLaws::list_laws))]
+fn write_list(a: &Archive, list: &[u8], judged: Judged, out: &mut [u8]) -> Row
+    requires { ListRoom a.now list.now judged (length out.old) }
+    ensures { ListWritten a.now out.old out.new result }
 {
     if judged.size <= KEPT_LIST {
         put_bytes(out, 0, &list[..judged.size]);
@@ -29,9 +30,8 @@ fn write_list(a: Archive, list: &[u8], judged: Judged, out: &mut [u8]) -> Row
 }
 
 // The answer for an accepted file: the verdict first, since a refusal leaves the output as it was.
-fn mine_in(a: Archive, scratch: &mut [u8], out: &mut [u8]) -> Result<usize, Refusal>
-    requires { (M : Matter) × Shows M a }
-    ensures { (M : Matter) → Shows M a
+fn mine_in(a: &Archive, scratch: &mut [u8], out: &mut [u8]) -> Result<usize, Refusal>
+    ensures { (M : Matter) → Shows M a.now
         → Mined (mining_in M) result scratch.old scratch.new out.old out.new }
 {
     if scratch.len() < SCRATCH_SIZE {
@@ -40,7 +40,7 @@ fn mine_in(a: Archive, scratch: &mut [u8], out: &mut [u8]) -> Result<usize, Refu
     let mut list = [0u8; KEPT_LIST + LONGEST_TERM];
     let j = judge_into(a, &mut list, KEPT_LIST).map_err(|_| Refusal::Inconvertible)?;
     if out.len() < j.size {
-        put_table(scratch, &masks::empty_row());
+        put_table(scratch, &Row::empty());
         return Err(Refusal::Output);
     }
     let marks = write_list(a, &list, j, out);
@@ -50,10 +50,11 @@ fn mine_in(a: Archive, scratch: &mut [u8], out: &mut [u8]) -> Result<usize, Refu
 
 // 01's mining, for any bytes, scratch and output: the length of the list written. `said_mining` gives 01's number and values of each reply;
 // equal ones mean equal replies (`mining_said`).
+#[tactic(auto, using(crate::proofs::AnswerLaws::file_laws), unfolding(crate::specs::Calls::mining_call))]
 pub fn mining_call(file: &[u8], scratch: &mut [u8], out: &mut [u8]) -> Result<usize, Refusal>
     ensures { Mined (mining_call file.now) result
         scratch.old scratch.new out.old out.new }
 {
     let a = graph::load(file)?;
-    mine_in(a, scratch, out)
+    mine_in(&a, scratch, out)
 }

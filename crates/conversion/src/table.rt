@@ -8,6 +8,7 @@ use masks::Row;
 use mining::Pair;
 
 // Byte 32a + b is 1 where bit b of mask a is set, and otherwise 0; bytes past 1,024 are kept.
+#[tactic(auto, using(crate::proofs::TableLaws::table_laws))]
 pub fn put_table(scratch: &mut [u8], marks: &Row)
     requires { scratch_size ≤ length scratch.old }
     ensures { scratch.new ≡ row_bytes marks.now ++ drop scratch_size scratch.old }

@@ -13,6 +13,7 @@ use mining::{Obstacle, Pair};
 
 // Convertible with the list's length in bytes; or not, for the pair has no word or has the rival.
 // `said_verdict` gives 01's number and values of each; equal ones mean equal replies (`verdict_said`).
+// Kept: no Result, since each of the three is an answer of 01's verdict and none a failure.
 #[derive(Clone, Copy, Debug, PartialEq, Eq)]
 pub enum Verdict {
     Convertible(usize),
@@ -50,16 +51,17 @@ pub const LONGEST_TERM: usize = 31778;
 
 // The pairs in turn, their terms one after another from place 2 of the lent slice on, and then their number before them.
 // A list of at most `limit` bytes stays there; a term that begins beyond is built at `limit`, over the one before.
-pub fn judge_into(a: Archive, list: &mut [u8], limit: usize) -> Result<Judged, Hindered>
-    requires { JudgeRoom a limit (length list.old) }
-    ensures { JudgedAs a limit list.old list.new result }
+#[tactic(auto, using(crate::proofs::JudgeLaws::judge_laws))]
+pub fn judge_into(a: &Archive, list: &mut [u8], limit: usize) -> Result<Judged, Hindered>
+    requires { JudgeRoom a.now limit (length list.old) }
+    ensures { JudgedAs a.now limit list.old list.new result }
 {
-    let mut marks = masks::empty_row();
+    let mut marks = Row::empty();
     let mut number: usize = 0;
     let mut size: usize = 2;
-    let count = MOST_PARTIES * a.parties;
+    let count = MOST_PARTIES * a.graph.parties;
     for k in 0..count {
-        if !mining::is_due(a.parties, &a.permits, &marks, k) {
+        if !mining::is_due(&a.graph, &a.permits, &marks, k) {
             continue;
         }
         let at = size.min(limit);
@@ -77,6 +79,7 @@ pub fn judge_into(a: Archive, list: &mut [u8], limit: usize) -> Result<Judged, H
 }
 
 // The verdict on a file, and its list in the lent slice where it has at most `limit` bytes.
+#[tactic(auto, using(crate::proofs::AnswerLaws::convert_laws), unfolding(crate::specs::Calls::verdict_call))]
 pub fn convert(file: &[u8], list: &mut [u8], limit: usize) -> Result<Verdict, Refusal>
     requires { limit + longest_term ≤ length list.old }
     ensures { (result ≡ verdict_call file.now)
@@ -84,7 +87,7 @@ pub fn convert(file: &[u8], list: &mut [u8], limit: usize) -> Result<Verdict, Re
         → take k list.new ≡ bytes_of (matter_of file.now)) }
 {
     let a = graph::load(file)?;
-    match judge_into(a, list, limit) {
+    match judge_into(&a, list, limit) {
         Ok(j) => Ok(Verdict::Convertible(j.size)),
         Err(h) => Ok(Verdict::from(h)),
     }

@@ -1,9 +1,6 @@
 -- Every call looks at a file's check and at its matter only, so two accepted files with one matter are answered alike,
 -- in whichever editions: a file and its copy among them, and a file and the same matter in edition 1.
-use mathlib.Core.Path.{◌≡◌, sym, ◌∙◌}
-use mathlib.Core.List.{List}
-use Prim.Native.Nat.{ℕ}
-use Rattle.std.specs.Prelude.{Ok}
+use Rattle.std.proofs.Common.{◌≡◌, sym, ◌∙◌, List, ℕ, Ok}
 use Rattle.house_file.specs.Check.{check_of}
 use Rattle.house_file.specs.Meaning.{IsEdition}
 use Rattle.graph.specs.FileMatter.{matter_of}

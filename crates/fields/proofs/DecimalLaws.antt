@@ -1,16 +1,22 @@
--- Decimal digits one by one, and their number by a power of ten. Assumes nothing.
-use mathlib.Core.Path.{◌≡◌, refl, ap, ◌∙◌}
-use mathlib.Core.List.{List, [], ◌∷◌, ◌++◌}
-use Prim.Native.Nat.{ℕ, zero, suc, ◌+◌, ◌/◌, ◌%◌, ◌^◌, ◌≤◌, ◌<◌}
-use native.Mathlib.Omega.{arith}
-use native.Mathlib.Nat.{pow-suc}
-use lib.Dec.{ltb}
-use lib.ListN.{length, set, length-append}
-use borrow.Author.Tests.{lt-ltb, le-ltb, ltb-true, ltb-false}
+-- Decimal digits as std prints them, and one by one, and their number by a power of ten. Assumes nothing.
+use Rattle.std.proofs.Common.{◌≡◌, refl, sym, ap, ◌∙◌, List, [], ◌∷◌, ◌++◌, ℕ, zero, suc, ◌+◌, ◌/◌, ◌%◌, ◌^◌, ◌≤◌, ◌<◌, arith}
+use Rattle.std.proofs.Common.{pow-suc, ltb, length, length-append, lt-ltb, le-ltb, ltb-true, ltb-false}
+use Rattle.std.specs.Fmt.{decimal}
+use Rattle.std.proofs.lemmas.Fmt.{AppendsLastDigit, decimal_from_appends, length-decimal-le_succ}
 use Rattle.lists.proofs.Cases.{by_test}
-use Rattle.fields.specs.promises.Writing.{Wrote}
 use Rattle.fields.specs.Decimal.{digits_in, decimal_text}
-use Rattle.fields.proofs.PutLaws.{put_one, then_one}
+
+digits_one_by_one : AppendsLastDigit digits_in
+unfolding digits_in
+digits_one_by_one = record {
+  one = λ k n h. rw (lt-ltb n 10 h) refl;
+  more = λ k n h. rw (le-ltb n 10 h) refl;
+}
+
+-- what std prints of a number of 64 bits
+pub decimal_same : (n : ℕ) → n < 2 ^ 64 → decimal n ≡ decimal_text n
+unfolding decimal_text
+decimal_same n h = sym (decimal_from_appends digits_in digits_one_by_one (suc n) n h (omega (arith, length-decimal-le_succ n h)))
 
 -- turns enough give the same digits
 digits_same : (k j n : ℕ) → n < k → n < j → digits_in k n ≡ digits_in j n
@@ -45,23 +51,3 @@ decimal_length (suc k) n h =
     (λ e.
     let l : 10 ≤ n = ltb-false n 10 e in
     omega (arith, decimal_room n l, decimal_length k (n / 10) (omega (arith, pow-suc 10 (suc k)))))
-
--- where the digits fit, so does the one digit, and the last of several
-pub one_fits : (size at n : ℕ) → n < 10 → at + length (decimal_text n) ≤ size → at < size
-one_fits size at n h l = omega (arith, ap length (decimal_small n h))
-
-pub last_fits : (size at n end : ℕ) → 10 ≤ n → at + length (decimal_text n) ≤ size → end ≡ at + length (decimal_text (n / 10)) → end < size
-last_fits size at n end h l e = omega (arith, decimal_room n h)
-
--- the digits written: one, or one more
-pub decimal_one : (b : List ℕ) (at n : ℕ) → n < 10 → at < length b → Wrote b at (decimal_text n) (set b at (48 + n)) (at + 1)
-decimal_one b at n h l = rw (decimal_small n h) (record { bytes = put_one b at (48 + n) l; place = refl })
-
-pub decimal_next : (b : List ℕ) (at n : ℕ) (out : List ℕ) (end : ℕ) → 10 ≤ n → Wrote b at (decimal_text (n / 10)) out end → end < length b
-    → Wrote b at (decimal_text n) (set out end (48 + n % 10)) (end + 1)
-decimal_next b at n out end h w l =
-    rw (decimal_more n h)
-    (record {
-      bytes = then_one b at (decimal_text (n / 10)) out end w.bytes w.place (48 + n % 10) l;
-      place = omega (arith, length-append (decimal_text (n / 10)) ((48 + n % 10) ∷ []));
-    })

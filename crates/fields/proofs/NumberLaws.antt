@@ -1,9 +1,5 @@
 -- A two-byte field: how long it is, what was written is read, and equal ones have equal bytes. Assumes nothing.
-use mathlib.Core.Path.{◌≡◌, refl}
-use mathlib.Core.List.{List}
-use Prim.Native.Nat.{ℕ, ◌+◌, ◌/◌, ◌%◌}
-use native.Mathlib.Omega.{arith}
-use lib.ListN.{length}
+use Rattle.std.proofs.Common.{◌≡◌, refl, List, ℕ, ◌+◌, ◌/◌, ◌%◌, arith, length}
 use Rattle.fields.specs.Numbers.{byte_at, u16_at, u16_bytes, Bytes}
 
 pub u16_size : (n : ℕ) → length (u16_bytes n) ≡ 2

@@ -1,11 +1,8 @@
 -- Writing piece after piece is writing the pieces joined. Assumes nothing.
-use mathlib.Core.Path.{◌≡◌, sym, ap, ◌∙◌}
-use mathlib.Core.List.{List, [], ◌∷◌, ◌++◌, append_assoc}
-use Prim.Native.Nat.{ℕ, ◌+◌, ◌-◌, ◌≤◌, ◌<◌}
-use native.Mathlib.Omega.{arith}
-use native.Mathlib.Numerals.{add-one}
-use lib.ListN.{length, take, drop, get_or, set, length-append, length-drop, take-append-drop}
-use lib.Seq.{length-take-le, take_at, drop_at, drop-drop, set_split, take-suc, take-take, take-append-le}
+use Rattle.std.proofs.Common.{◌≡◌, sym, ap, ◌∙◌, List, [], ◌∷◌, ◌++◌, append_assoc, ℕ, ◌+◌, ◌-◌, ◌≤◌, ◌<◌}
+use Rattle.std.proofs.Common.{arith, add-one, length, take, drop, set, length-append, length-drop, take-append-drop}
+use Rattle.std.proofs.Common.{length-take-le, take_at, drop_at, drop-drop, take-take}
+use Rattle.std.proofs.Math.Seq.{set_split, take-append-le}
 use Rattle.fields.specs.promises.Writing.{put}
 
 -- the part before and the part written, and what is kept behind
@@ -90,14 +87,6 @@ put_two b at u v h = ap (λ (l : List ℕ). set l (at + 1) v) (put_one b at u (o
 
 pub put_three : (b : List ℕ) (at u v w : ℕ) → at + 2 < length b → set (set (set b at u) (at + 1) v) (at + 2) w ≡ put b at (u ∷ v ∷ w ∷ [])
 put_three b at u v w h = ap (λ (l : List ℕ). set l (at + 2) w) (put_two b at u v (omega arith)) ∙ put_more b at (u ∷ v ∷ []) w h
-
--- the front of a list, element after element
-pub put_take : (b : List ℕ) (at : ℕ) (s : List ℕ) (i : ℕ) → at + i < length b → i < length s
-    → set (put b at (take i s)) (at + i) (get_or s i 0) ≡ put b at (take (i + 1) s)
-put_take b at s i h k =
-    let e : length (take i s) ≡ i = length-take-le i s (omega arith) in
-    let more : take i s ++ (get_or s i 0 ∷ []) ≡ take (i + 1) s = sym (take-suc s i 0 k) ∙ ap (λ (n : ℕ). take n s) (sym (add-one i)) in
-    rw e at (put_more b at (take i s) (get_or s i 0) (omega (arith, e))) ∙ ap (put b at) more
 
 -- what was written keeps the length
 pub put_kept : (b out : List ℕ) (at : ℕ) (x : List ℕ) → out ≡ put b at x → at + length x ≤ length b → length out ≡ length b

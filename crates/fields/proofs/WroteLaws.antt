@@ -1,9 +1,5 @@
 -- Pieces written one after another, each where the one before it ends. Assumes nothing.
-use mathlib.Core.Path.{◌≡◌, ap, ◌∙◌}
-use mathlib.Core.List.{List, ◌++◌}
-use Prim.Native.Nat.{ℕ, ◌+◌, ◌≤◌}
-use native.Mathlib.Omega.{arith}
-use lib.ListN.{length, length-append}
+use Rattle.std.proofs.Common.{◌≡◌, ap, ◌∙◌, List, ◌++◌, ℕ, ◌+◌, ◌≤◌, arith, length, length-append}
 use Rattle.fields.specs.promises.Writing.{put, Wrote}
 use Rattle.fields.proofs.PutLaws.{put_put, put_length}
 

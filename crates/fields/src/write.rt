@@ -4,6 +4,8 @@ ghost use Rattle.fields.specs.Numbers.{u16_bytes};
 ghost use Rattle.fields.specs.promises.Writing.{put, Wrote};
 
 // Two bytes, the low one first.
+// Kept: no cursor for (out, at): a count is written after its words, a record where the layout says; a text's contract names both places.
+#[tactic(auto, unfolding(crate::specs::promises::Writing::put, crate::specs::Numbers::u16_bytes))]
 pub fn put_u16(out: &mut [u8], at: usize, x: usize)
     requires { (x < 65536) × (at + 2 ≤ length out.old) }
     ensures { out.new ≡ put out.old at (u16_bytes x) }
@@ -12,6 +14,7 @@ pub fn put_u16(out: &mut [u8], at: usize, x: usize)
 }
 
 // The bytes of a slice, and the place after them.
+#[tactic(auto, unfolding(crate::specs::promises::Writing::put))]
 pub fn put_bytes(out: &mut [u8], at: usize, s: &[u8]) -> usize
     requires { at + length s.now ≤ length out.old }
     ensures { Wrote out.old at s.now out.new result }

@@ -1,9 +1,6 @@
 -- The tests of pairs and symbols say what 01's sentences do. Assumes nothing.
-use mathlib.Core.Path.{◌≡◌, refl}
-use mathlib.Core.Bool.{true, not, ◌&&◌}
-use Prim.Native.Nat.{ℕ}
-use lib.Dec.{eqb, ltb}
-use borrow.Author.Tests.{lt-ltb, ltb-true, ne_eqb, eqb-false, not-true}
+use Rattle.std.proofs.Common.{◌≡◌, refl, true, not, ◌&&◌, ℕ, eqb, ltb, lt-ltb, ltb-true, ne_eqb}
+use Rattle.std.proofs.lemmas.Bool.{eqb-false, not-true}
 use Rattle.lists.proofs.Cases.{and_left, and_right}
 use Rattle.rebac.specs.Matter.{Matter, pair, IsPair}
 use Rattle.rebac.specs.Symbols.{in_language}

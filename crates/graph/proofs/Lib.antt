@@ -1,3 +1,4 @@
 pub mod SymbolLaws
 pub mod LoadLaws
+pub mod ShownLaws
 pub mod LegalLaws

@@ -1,20 +1,16 @@
 -- The symbols of a pair of parties: by the four kinds of a symbol. Assumes nothing.
-use mathlib.Core.Path.{◌≡◌, refl, ap}
-use mathlib.Core.Bool.{Bool, true, false, not, ◌&&◌}
-use mathlib.Core.Logic.{by_cases}
-use Prim.Native.Nat.{ℕ, zero, suc, ◌*◌, ◌/◌, ◌%◌, ◌≤◌, ◌<◌}
-use native.Mathlib.Decide.{dec_lt}
-use native.Mathlib.Omega.{arith}
-use lib.Dec.{eqb, ltb}
-use borrow.Author.Tests.{lt-ltb, le-ltb, eq-eqb, ne_eqb}
+use Rattle.std.proofs.Common.{◌≡◌, refl, ap, Bool, true, false, not, ◌&&◌, ℕ, zero, suc, ◌*◌, ◌/◌}
+use Rattle.std.proofs.Common.{◌%◌, ◌≤◌, ◌<◌, arith, eqb, ltb, lt-ltb, le-ltb, eq-eqb, ne_eqb}
+use Rattle.std.proofs.Math.Logic.{by_cases}
+use Rattle.std.proofs.Math.Decide.{dec_lt}
 use Rattle.lists.specs.Lists.{any_of, member}
 use Rattle.lists.proofs.Cases.{by_test, and_false}
 use Rattle.masks.specs.promises.Table.{mask_at}
 use Rattle.masks.specs.declared.Table.{Table}
 use Rattle.rebac.specs.Matter.{Matter}
 use Rattle.rebac.specs.Symbols.{kinds, kind_holds, apart, in_language, holds}
-use Rattle.house_layout.specs.declared.header.Header.{Header}
-use Rattle.graph.specs.promises.Archive.{kind_in, symbol_in, Records}
+use Rattle.graph.specs.declared.words.WordRule.{WordRule}
+use Rattle.graph.specs.promises.Symbols.{kind_in, symbol_in, Records}
 
 -- the kinds of each language
 pub kinds_0 : (k : ℕ) → k < 4 → eqb k 0 ≡ member k (kinds 0)
@@ -58,7 +54,7 @@ module _ (g out back s : ℕ) where
     symbol_kind k e = rw m (ap (kind_in out back (s / 4)) e)
 
 -- the symbols that hold between two parties of the matter
-module _ (M : Matter) (h : Header) (k : Table) (r : Records M h k) (u v : ℕ) where
+module _ (M : Matter) (n : ℕ) (x : WordRule) (k : Table) (r : Records M n x k) (u v : ℕ) where
   same_kind : (l j : ℕ) → l < M.labels → kind_in (mask_at k u v) (mask_at k v u) l j ≡ kind_holds M u v l j
   unfolding kind_holds
   same_kind l zero e = r.edges u v l e
@@ -67,7 +63,7 @@ module _ (M : Matter) (h : Header) (k : Table) (r : Records M h k) (u v : ℕ) w
   same_kind l (suc (suc (suc j))) e = ap not (r.edges v u l e)
 
   pub symbols_hold : u < M.parties → v < M.parties → (u ≡ v → ⊥)
-      → (s : ℕ) → (ltb s (4 * h.labels) && symbol_in h.language (mask_at k u v) (mask_at k v u) s) ≡ holds M u v s
+      → (s : ℕ) → (ltb s (4 * x.labels) && symbol_in x.language (mask_at k u v) (mask_at k v u) s) ≡ holds M u v s
   unfolding holds apart in_language symbol_in
   symbols_hold a b ne s =
       rw (lt-ltb u M.parties a, lt-ltb v M.parties b, ne_eqb u v ne, r.labels, r.language)

@@ -1,15 +1,9 @@
 -- Different replies of a call are different numbers: the lowest byte tells the reply's kind, the others its values, each below 256.
 -- Every reply of the calls is in range.
-use Rattle.std.specs.Prelude.{Bool, true, false, Result, Ok, Err}
+use Rattle.std.proofs.Common.{Bool, true, false, Result, Ok, Err, ◌≡◌, refl, ap, List, ℕ, ◌+◌, ◌*◌, ◌<◌, arith, leb, length}
 use Rattle.house_layout.specs.declared.reply.Refusal.{Refusal}
-use mathlib.Core.Path.{◌≡◌, refl, ap}
-use mathlib.Core.Logic.{by_cases}
-use mathlib.Core.List.{List}
-use Prim.Native.Nat.{ℕ, ◌+◌, ◌*◌, ◌<◌}
-use native.Mathlib.Decide.{dec_lt}
-use native.Mathlib.Omega.{arith}
-use lib.Dec.{leb}
-use lib.ListN.{length}
+use Rattle.std.proofs.Math.Logic.{by_cases}
+use Rattle.std.proofs.Math.Decide.{dec_lt}
 use Rattle.lists.proofs.Cases.{by_test}
 use Rattle.rebac.specs.Verdict.{is_convertible}
 use Rattle.rebac.specs.Existence.{problem_of, verdict_of}

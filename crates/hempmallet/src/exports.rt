@@ -7,6 +7,7 @@ ghost use Rattle.hempmallet.specs.Packing.{pack_verdict, pack_mining, pack_permi
 use crate::pack::{pack_mining, pack_permit, pack_verdict};
 
 #[unsafe(no_mangle)]
+#[tactic(auto, using(crate::proofs::PackingLaws::verdict_in_range))]
 pub extern "C" fn hempmallet_verdict(file: &[u8]) -> u64
     ensures { result ≡ pack_verdict (verdict_call file.now) }
 {
@@ -15,6 +16,7 @@ pub extern "C" fn hempmallet_verdict(file: &[u8]) -> u64
 }
 
 #[unsafe(no_mangle)]
+#[tactic(auto, using(crate::proofs::PackingLaws::mining_in_range))]
 pub extern "C" fn hempmallet_mining(file: &[u8], scratch: &mut [u8], output: &mut [u8]) -> u64
     ensures { (result ≡ pack_mining
         (mining_reply (mining_call file.now (length scratch.old) (length output.old))))

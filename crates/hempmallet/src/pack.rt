@@ -1,4 +1,5 @@
 // One unsigned 64-bit number for each reply of a call.
+// Kept: C takes a reply as one number, and no `From` can stand here, since both types are of other crates.
 ghost use Rattle.std.specs.Prelude.{◌≡◌};
 ghost use Rattle.hempmallet.specs.Packing.{pack_verdict, pack_mining, pack_permit, VerdictInRange, MiningInRange};
 

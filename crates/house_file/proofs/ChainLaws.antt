@@ -1,17 +1,12 @@
 -- One chain followed turn by turn: marks stand for the records reached, the row for their kinds, and the definition's turns that
 -- are left stay above the number of records not reached. Assumes nothing.
-use mathlib.Core.Path.{◌≡◌, refl, sym, ap, ◌∙◌}
-use mathlib.Core.Bool.{Bool, true, false, not, ◌||◌}
-use mathlib.Core.List.{List, [], ◌∷◌, ◌++◌, append_assoc, append-nil}
-use mathlib.Core.Logic.{by_cases}
-use Rattle.std.specs.Prelude.{⊤, Result, Ok, Err}
-use Prim.Native.Nat.{ℕ, zero, suc, ◌-◌, ◌≤◌, ◌<◌}
-use native.Mathlib.Decide.{ℕ_discrete}
-use native.Mathlib.Omega.{arith}
-use lib.ListN.{get_or, set, length}
-use lib.Seq.{get_or-set_same, get_or-set_other}
-use lib.Dec.{eqb, ltb}
-use borrow.Author.Tests.{eq-eqb, ne_eqb, lt-ltb, le-ltb, eqb-true, not-false}
+use Rattle.std.proofs.Common.{◌≡◌, refl, sym, ap, ◌∙◌, Bool, true, false, not, ◌||◌, List, [], ◌∷◌, ◌++◌, append_assoc}
+use Rattle.std.proofs.Common.{append-nil, Result, Ok, Err, ℕ, zero, suc, ◌-◌, ◌≤◌, ◌<◌, arith, get_or, set, length}
+use Rattle.std.proofs.Common.{get_or-set_same, get_or-set_other, eqb, ltb, eq-eqb, ne_eqb, lt-ltb, le-ltb, eqb-true}
+use Rattle.std.proofs.lemmas.Bool.{not-false}
+use Rattle.std.proofs.Math.Logic.{by_cases}
+use Rattle.std.specs.Prelude.{⊤}
+use Rattle.std.proofs.Math.Decide.{ℕ_discrete}
 use Rattle.lists.specs.Lists.{any_of, member, pick}
 use Rattle.lists.proofs.ListLaws.{any_append, any_one}
 use Rattle.lists.proofs.Cases.{or_true, and_false, or_false}

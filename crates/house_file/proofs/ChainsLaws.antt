@@ -1,13 +1,11 @@
 -- Following all chains passes exactly where each chain is right and no record stands in two: by induction on the parties, both ways.
 -- Assumes nothing.
-use mathlib.Core.Path.{◌≡◌, refl, sym, ap, ◌∙◌}
-use mathlib.Core.Bool.{true, false}
-use mathlib.Core.Logic.{by_cases}
+use Rattle.std.proofs.Common.{◌≡◌, refl, sym, ap, ◌∙◌, true, false, List, [], ◌++◌, append_assoc}
+use Rattle.std.proofs.Common.{append-nil, ℕ, zero, suc, ◌+◌, ◌≤◌, ◌<◌, arith}
+use Rattle.std.proofs.Math.Logic.{by_cases}
 use mathlib.Core.List.Memᴰ
-use mathlib.Core.List.{List, [], ◌++◌, append_assoc, Memᴰ, append-nil}
-use Prim.Native.Nat.{ℕ, zero, suc, ◌+◌, ◌≤◌, ◌<◌}
-use native.Mathlib.Decide.{ℕ_discrete}
-use native.Mathlib.Omega.{arith}
+use mathlib.Core.List.{Memᴰ}
+use Rattle.std.proofs.Math.Decide.{ℕ_discrete}
 use Rattle.lists.specs.Lists.{any_of}
 use Rattle.lists.specs.Order.{Distinct}
 use Rattle.lists.proofs.Cases.{both, by_append}

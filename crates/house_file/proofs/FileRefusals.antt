@@ -1,14 +1,8 @@
 -- Only the refusals 1 to 8 and 15 come from a file: each test of the check gives one of them, and following chains
 -- passes on what it met.
-use mathlib.Core.Path.{◌≡◌, refl}
-use mathlib.Core.Logic.{◌⊎◌, inl, inr}
-use mathlib.Core.Bool.{Bool, true, false, not}
-use mathlib.Core.List.{List, [], ◌∷◌, ◌++◌}
-use Rattle.std.specs.Prelude.{⊤, Result, Ok, Err}
-use Prim.Native.Nat.{ℕ, zero, suc, ◌≤◌}
-use native.Mathlib.Omega.{arith}
-use lib.Dec.{eqb, ltb}
-use lib.ListN.{length}
+use Rattle.std.proofs.Common.{◌≡◌, refl, ◌⊎◌, inl, inr, Bool, true, false, not, List, [], ◌∷◌, ◌++◌}
+use Rattle.std.proofs.Common.{Result, Ok, Err, ℕ, zero, suc, ◌≤◌, arith, eqb, ltb, length}
+use Rattle.std.specs.Prelude.{⊤}
 use Rattle.lists.specs.Lists.{pick, all_of, member, up_from}
 use Rattle.house_layout.specs.Layout.{parties_of, records_of, size_of, head_of, record_of}
 use Rattle.house_layout.specs.Reply.{number_of, refuse}

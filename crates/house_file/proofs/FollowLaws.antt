@@ -1,13 +1,11 @@
 -- Following one chain passes exactly where the chain's records are right and new: by induction on the turns, both ways. Assumes nothing.
-use mathlib.Core.Path.{◌≡◌, refl, sym, ap, ◌∙◌}
-use mathlib.Core.Bool.{Bool, true, false}
-use mathlib.Core.List.{List, [], ◌∷◌, ◌++◌, append_assoc, Memᴰ, append-nil}
-use Rattle.std.specs.Prelude.{⊤, Result, Ok, Err}
+use Rattle.std.proofs.Common.{◌≡◌, refl, sym, ap, ◌∙◌, Bool, true, false, List, [], ◌∷◌, ◌++◌, append_assoc, append-nil, Result, Ok, Err}
+use Rattle.std.proofs.Common.{ℕ, zero, suc, ◌≤◌, ◌<◌, arith, eqb, ltb, eq-eqb, ne_eqb, le-ltb, eqb-true, ltb-false, ltb-true, lt-ltb}
+use Rattle.std.proofs.lemmas.Bool.{eqb-false}
+use mathlib.Core.List.Memᴰ
+use mathlib.Core.List.{Memᴰ}
+use Rattle.std.specs.Prelude.{⊤}
 use Rattle.house_layout.specs.declared.reply.Refusal.{Refusal}
-use Prim.Native.Nat.{ℕ, zero, suc, ◌≤◌, ◌<◌}
-use native.Mathlib.Omega.{arith}
-use lib.Dec.{eqb, ltb}
-use borrow.Author.Tests.{eq-eqb, ne_eqb, le-ltb, eqb-true, eqb-false, ltb-false, ltb-true, lt-ltb}
 use Rattle.lists.specs.Lists.{any_of, member}
 use Rattle.lists.specs.Order.{Distinct}
 use Rattle.lists.proofs.Cases.{by_test, by_mem, both, clash, or_left, or_right}
@@ -71,7 +69,7 @@ pub record Right (f : List ℕ) (u : ℕ) (before earlier : List ℕ) (r : ℕ) 
       → (record_of f s).target ≡ (record_of f t).target → (record_of f s).kind ≡ (record_of f t).kind → s ≡ t
 
 nothing : {G : Type 0} {s : ℕ} → Memᴰ s [] → G
-nothing m = absurd (mathlib.Core.List.Memᴰ.not-nil m)
+nothing m = absurd (Memᴰ.not-nil m)
 
 right_end : (f : List ℕ) (u : ℕ) (before earlier : List ℕ) (r : ℕ) → r ≡ 0 → Right f u before earlier r []
 right_end f u before earlier r e = record {
@@ -119,25 +117,25 @@ module _ (f : List ℕ) (u : ℕ) (before earlier : List ℕ) (r : ℕ) (c : Lis
   -- and off again
   right_tail : Right f u before earlier r (r ∷ c) → Right f u before (earlier ++ (r ∷ [])) (record_of f r).next c
   right_tail h =
-      let here : Memᴰ r (r ∷ c) = mathlib.Core.List.Memᴰ.head refl in
+      let here : Memᴰ r (r ∷ c) = Memᴰ.head refl in
       let other : (s : ℕ) → Memᴰ s c → s ≡ r → ⊥ = λ s m q. h.once.0 (rw q at m) in
       record {
         linked = h.linked.1.1.1;
-        owner = λ s m. h.owner s (mathlib.Core.List.Memᴰ.tail m);
-        target = λ s m. h.target s (mathlib.Core.List.Memᴰ.tail m);
-        kind = λ s m. h.kind s (mathlib.Core.List.Memᴰ.tail m);
-        fresh = λ s m. moved s ∙ any_no (eqb s) (before ++ earlier) r (ne_eqb s r (other s m)) ∙ h.fresh s (mathlib.Core.List.Memᴰ.tail m);
+        owner = λ s m. h.owner s (Memᴰ.tail m);
+        target = λ s m. h.target s (Memᴰ.tail m);
+        kind = λ s m. h.kind s (Memᴰ.tail m);
+        fresh = λ s m. moved s ∙ any_no (eqb s) (before ++ earlier) r (ne_eqb s r (other s m)) ∙ h.fresh s (Memᴰ.tail m);
         once = h.once.1;
         new = λ s m. by_test (says f (record_of f s).target (record_of f s).kind r)
-            (λ q. let w = says_target f _ _ r q in absurd (other s m (sym (h.different r s here (mathlib.Core.List.Memᴰ.tail m) w.0 w.1))))
-            (λ q. any_no (says f (record_of f s).target (record_of f s).kind) earlier r q ∙ h.new s (mathlib.Core.List.Memᴰ.tail m));
-        different = λ s t m n a b. h.different s t (mathlib.Core.List.Memᴰ.tail m) (mathlib.Core.List.Memᴰ.tail n) a b;
+            (λ q. let w = says_target f _ _ r q in absurd (other s m (sym (h.different r s here (Memᴰ.tail m) w.0 w.1))))
+            (λ q. any_no (says f (record_of f s).target (record_of f s).kind) earlier r q ∙ h.new s (Memᴰ.tail m));
+        different = λ s t m n a b. h.different s t (Memᴰ.tail m) (Memᴰ.tail n) a b;
       }
 
   right_accepts : Right f u before earlier r (r ∷ c) → record_check f u before earlier r ≡ Ok tt
   unfolding record_check
   right_accepts h =
-      let here : Memᴰ r (r ∷ c) = mathlib.Core.List.Memᴰ.head refl in
+      let here : Memᴰ r (r ∷ c) = Memᴰ.head refl in
       judge_accepts (parties_of f) (labels_of f) u (record_of f r) _ _
       (h.fresh r here) (h.owner r here) (h.target r here) (h.kind r here) (h.new r here)
 

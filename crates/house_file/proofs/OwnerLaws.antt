@@ -1,9 +1,6 @@
 -- What an accepted file's records say of their owner: the chain's party, by the byte that the edition has or has not. Assumes nothing.
-use mathlib.Core.Path.{◌≡◌, ap}
-use mathlib.Core.List.{List, Memᴰ}
-use Rattle.std.specs.Prelude.{Ok, Some}
-use Prim.Native.Nat.{ℕ, ◌+◌, ◌<◌}
-use lib.Dec.{eqb}
+use Rattle.std.proofs.Common.{◌≡◌, ap, List, Ok, Some, ℕ, ◌+◌, ◌<◌, eqb}
+use mathlib.Core.List.{Memᴰ}
 use Rattle.lists.proofs.Cases.{by_test}
 use Rattle.fields.specs.Numbers.{byte_at}
 use Rattle.house_layout.specs.Layout.{edition_of, parties_of, place_of, record_of, owner_in}

@@ -1,15 +1,8 @@
 -- Every record was reached exactly where no mark is 0. Assumes nothing.
-use mathlib.Core.Path.{◌≡◌, sym, ap, ◌∙◌}
-use mathlib.Core.Bool.{Bool, true, false, not}
-use mathlib.Core.List.{List}
-use Prim.Native.Nat.{ℕ, suc, ◌-◌, ◌≤◌, ◌<◌}
-use native.Mathlib.Omega.{arith}
-use lib.Dec.{eqb}
-use lib.ListN.{get_or, length, take}
-use Rattle.std.proofs.Common.{length-take}
+use Rattle.std.proofs.Common.{◌≡◌, sym, ap, ◌∙◌, Bool, true, false, not, List, ℕ, suc, ◌-◌, ◌≤◌, ◌<◌, arith}
+use Rattle.std.proofs.Common.{eqb, get_or, length, take, length-take, eq-eqb, ne_eqb, eqb-true}
 use Rattle.std.proofs.lemmas.List.{get_or-take}
 use Rattle.std.specs.List.{IsAnyAnswer}
-use borrow.Author.Tests.{eq-eqb, ne_eqb, eqb-true}
 use Rattle.lists.specs.Lists.{member, up_from}
 use Rattle.lists.proofs.Cases.{by_test, both}
 use Rattle.lists.proofs.ListLaws.{all_in, all_of_lem, up_in, up_out}
@@ -38,6 +31,7 @@ module _ (marks seen : List ℕ) (m : RecordMarks marks seen) (records : ℕ) wh
       sym (one_missing k n (eqb-true _ 0 (rw (get_or-take records marks k 0 n) at (e 0))))
   reached_where h false a =
       sym (none_missing (λ i l z.
-      let f : eqb (get_or marks i 0) 0 ≡ false = rw (← get_or-take records marks i 0 l) (a i 0 (omega arith) (omega (arith, length-take records marks))) in
+      let k : i < length (take records marks) = omega (arith, length-take records marks) in
+      let f : eqb (get_or marks i 0) 0 ≡ false = rw (← get_or-take records marks i 0 l) (a i 0 (omega arith) k) in
       let t : eqb (get_or marks i 0) 0 ≡ true = eq-eqb _ 0 z in
       cc))

@@ -1,15 +1,10 @@
 -- Accepted means well formed: the header's tests one by one, then all chains followed. Assumes nothing.
-use mathlib.Core.Path.{◌≡◌, refl, ap, ◌∙◌}
-use mathlib.Core.Bool.{Bool, true, false, not}
-use mathlib.Core.Logic.{◌↔◌}
+use Rattle.std.proofs.Common.{◌≡◌, refl, ap, ◌∙◌, Bool, true, false, not, ◌↔◌, List, [], Result, Ok, Err, ℕ, ◌≤◌, ◌<◌, arith}
+use Rattle.std.proofs.Common.{length, eqb, ltb, leb, eq-eqb, ne_eqb, eqb-true, le-leb, leb-true, lt-ltb, le-ltb, ltb-false}
+use Rattle.std.proofs.lemmas.Bool.{not-false}
 use mathlib.Core.List.Memᴰ
-use mathlib.Core.List.{List, [], Memᴰ}
-use Rattle.std.specs.Prelude.{⊤, Result, Ok, Err}
-use Prim.Native.Nat.{ℕ, ◌≤◌, ◌<◌}
-use native.Mathlib.Omega.{arith}
-use lib.ListN.{length}
-use lib.Dec.{eqb, ltb, leb}
-use borrow.Author.Tests.{eq-eqb, ne_eqb, eqb-true, le-leb, leb-true, lt-ltb, le-ltb, ltb-false, not-false}
+use mathlib.Core.List.{Memᴰ}
+use Rattle.std.specs.Prelude.{⊤}
 use Rattle.lists.specs.Lists.{all_of, member, up_from}
 use Rattle.lists.proofs.Cases.{and_left, and_right, and_both}
 use Rattle.lists.proofs.ListLaws.{all_in, all_of_lem, up_in, up_out, member_in, member_out}

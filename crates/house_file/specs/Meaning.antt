@@ -1,6 +1,6 @@
 -- What a house file says, by the records of each party's chain; and what it is to be well formed, in plain terms.
-use Rattle.std.specs.Prelude.{ℕ, zero, suc, ◌≤◌, ◌<◌, ◌≡◌, ◌⊎◌, Bool, Some, ◌&&◌, ◌||◌, length, eqb, ltb}
-use mathlib.Core.List.{List, [], ◌∷◌, Memᴰ}
+use Rattle.std.specs.Prelude.{ℕ, zero, suc, ◌≤◌, ◌<◌, ◌≡◌, ◌⊎◌, Bool, Some, ◌&&◌, ◌||◌, length, eqb, ltb, List, [], ◌∷◌}
+use mathlib.Core.List.{Memᴰ}
 use Rattle.lists.specs.Lists.{any_of, pick}
 use Rattle.lists.specs.Order.{Distinct}
 use Rattle.limits.specs.Limits.{most_parties, most_labels, last_language, longest_word, most_records}

@@ -1,18 +1,16 @@
 // The whole file: its check and what it says, in one pass.
-ghost use Rattle.std.specs.Prelude.{◌≡◌, List, ℕ, ◌≤◌};
-ghost use Rattle.limits.specs.Limits.{most_records};
+ghost use Rattle.std.specs.Prelude.{◌≡◌, ℕ};
 ghost use Rattle.masks.specs.promises.Mask.{test_bit};
 ghost use Rattle.masks.specs.promises.Table.{mask_in, mask_at};
 ghost use Rattle.house_layout.specs.promises.Kinds.{permit_bit};
-ghost use Rattle.house_file.specs.Check.{every_reached, check_of};
+ghost use Rattle.house_file.specs.Check.{check_of};
 ghost use Rattle.house_file.specs.promises.Decoded.{ReadAs};
-ghost use Rattle.house_file.specs.promises.Reading.{Framed, RecordMarks, ChainsRead};
 
-use crate::chain::read_chain;
+use crate::chain::Frame;
 use house_layout::{
     HEAD_SIZE, HEADER_SIZE, Header, PERMIT_BIT, Refusal, fields_in_range, read_header, record_size,
 };
-use limits::{MASK_PLACES, MOST_PARTIES, MOST_RECORDS};
+use limits::{MASK_PLACES, MOST_PARTIES};
 use masks::{Row, Table};
 
 // What an accepted file says: `kinds` has for each pair the kinds recorded, `permits` for each first party the permitted second ones.
@@ -21,31 +19,6 @@ pub struct House {
     pub header: Header,
     pub kinds: Table,
     pub permits: Row,
-}
-
-// Whether every record was reached.
-fn all_reached(marks: &[u8; MOST_RECORDS], records: usize) -> bool
-    requires { records ≤ most_records }
-    ensures { (seen : List ℕ) → RecordMarks marks.now seen → result ≡ every_reached records seen }
-{
-    !marks[..records].contains(&0)
-}
-
-// The kinds of the chains of all parties, in order.
-fn read_chains(file: &[u8], h: Header) -> Result<Table, Refusal>
-    requires { Framed file.now h }
-    ensures { ChainsRead file.now result }
-{
-    let mut marks = [0u8; MOST_RECORDS];
-    let mut kinds = masks::empty_table();
-    for u in 0..h.parties {
-        let row = read_chain(file, h, u, &mut marks)?;
-        kinds = masks::put_row(kinds, u, row);
-    }
-    if !all_reached(&marks, h.records) {
-        return Err(Refusal::Unreached);
-    }
-    Ok(kinds)
 }
 
 // The parties that a row has a permit for.
@@ -65,14 +38,15 @@ fn permit_mask(row: Row) -> u32
 fn permit_masks(kinds: Table) -> Row
     ensures { (u v : ℕ) → test_bit (mask_in result u) v ≡ test_bit (mask_at kinds u v) permit_bit }
 {
-    let mut permits = masks::empty_row();
+    let mut permits = Row::empty();
     for u in 0..MOST_PARTIES {
-        permits = masks::put_mask(permits, u, permit_mask(kinds.rows[u]));
+        permits = permits.put_mask(u, permit_mask(kinds.rows[u]));
     }
     permits
 }
 
 // Checks and decodes any bytes.
+#[tactic(auto, using(crate::proofs::WellFormedLaws::check_short, crate::proofs::WellFormedLaws::check_field))]
 pub fn read(file: &[u8]) -> Result<House, Refusal>
     ensures { ReadAs file.now result }
 {
@@ -88,7 +62,7 @@ pub fn read(file: &[u8]) -> Result<House, Refusal>
     {
         return Err(Refusal::Length);
     }
-    let kinds = read_chains(file, header)?;
+    let kinds = Frame { file, header }.read_chains()?;
     let permits = permit_masks(kinds);
     Ok(House {
         header,

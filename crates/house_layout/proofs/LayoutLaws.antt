@@ -1,12 +1,8 @@
 -- A record's size and owner by its edition, and that each record stands within the file's length: by the two editions. Assumes nothing.
-use mathlib.Core.Path.{◌≡◌}
-use mathlib.Core.List.{List}
-use mathlib.Core.Logic.{◌⊎◌, inl, inr, ⊎_elim}
-use Prim.Native.Nat.{ℕ, ◌+◌, ◌*◌, ◌/◌, ◌%◌, ◌≤◌, ◌<◌}
-use native.Mathlib.Omega.{arith}
-use lib.Dec.{eqb}
-use Rattle.std.specs.Prelude.{Some, None}
+use Rattle.std.proofs.Common.{◌≡◌, List, ◌⊎◌, inl, inr, ⊎_elim, ℕ, ◌+◌, ◌*◌, ◌/◌, ◌%◌, ◌-◌, ◌≤◌, ◌<◌, arith, eqb, length, Some, None}
 use Rattle.lists.proofs.Cases.{by_test}
+use Rattle.house_layout.specs.promises.Places.{RecordThere}
+use Rattle.house_layout.specs.declared.header.Header.{Header}
 use Rattle.house_layout.specs.Layout.{edition_of, records_of, record_size, owner_in, size_of, place_of}
 
 size_cases : (e : ℕ) → (record_size e ≡ 4) ⊎ (record_size e ≡ 5)
@@ -21,6 +17,14 @@ size_least e = ⊎_elim (λ q. rw q (omega arith)) (λ q. rw q (omega arith)) (s
 
 pub record_inside : (f : List ℕ) (r : ℕ) → 1 ≤ r → r ≤ records_of f → place_of f r + record_size (edition_of f) ≤ size_of f
 record_inside f r a b = ⊎_elim (λ q. rw q (omega arith)) (λ q. rw q (omega arith)) (size_cases (edition_of f))
+
+-- a record ends within a file that has it
+pub record_ends : (f : List ℕ) (h : Header) (r s : ℕ) → RecordThere f h r → s ≡ record_size h.edition
+    → 8 + 2 * h.parties + s * (r - 1) + s ≤ length f
+record_ends f h r s p e = rw e (rw (p.numbers, p.size) (record_inside _ _ p.first p.last))
+
+-- what `read_record` rests on
+pub ruleset record_laws = (record_ends, size_least)
 
 -- a place among so many records is a record's and one within it
 pub piece_of : (e r i : ℕ) → i < record_size e * r → (q : ℕ) × ((j : ℕ) × ((q < r) × ((j < record_size e) × (record_size e * q + j ≡ i))))

@@ -1,13 +1,9 @@
 -- A check's reply by its cases, what an own owner byte, a legal target and a legal kind are, and a record's checks
 -- one by one: by the outcome of each test. Assumes nothing.
-use mathlib.Core.Path.{◌≡◌, refl, sym, ap, ◌∙◌}
-use mathlib.Core.Logic.{◌⊎◌, inl, inr, ⊎_elim}
-use mathlib.Core.Bool.{Bool, true, false, not}
-use Prim.Native.Nat.{ℕ, ◌≤◌, ◌<◌}
-use native.Mathlib.Omega.{arith}
-use lib.Dec.{eqb, ltb}
-use Rattle.std.specs.Prelude.{⊤, Option, Some, None, Result, Ok, Err}
-use borrow.Author.Tests.{ltb-true, eqb-true, eqb-false, eq-eqb, ne_eqb, lt-ltb, not-true, not-false}
+use Rattle.std.proofs.Common.{◌≡◌, refl, sym, ap, ◌∙◌, ◌⊎◌, inl, inr, ⊎_elim, Bool, true, false, not, ℕ, ◌≤◌, ◌<◌, arith}
+use Rattle.std.proofs.Common.{eqb, ltb, Option, Some, None, Result, Ok, Err, ltb-true, eqb-true, eq-eqb, ne_eqb, lt-ltb}
+use Rattle.std.proofs.lemmas.Bool.{eqb-false, not-true, not-false}
+use Rattle.std.specs.Prelude.{⊤}
 use Rattle.lists.proofs.Cases.{by_test, and_left, and_right}
 use Rattle.house_layout.specs.Layout.{permit_kind}
 use Rattle.house_layout.specs.Fields.{foreign, legal_target, legal_kind, judge_record}

@@ -1,10 +1,7 @@
 -- A refusal's number says which it is, and is at most 15: each of the fifteen by computing. So a reply is known by
 -- its number and values. Assumes nothing.
-use mathlib.Core.Path.{◌≡◌, refl, sym, ap, ◌∙◌}
-use Prim.Native.Nat.{ℕ, ◌≤◌}
-use native.Mathlib.Omega.{arith}
-use lib.Dec.{eqb}
-use Rattle.std.specs.Prelude.{⊤, Result, Ok, Err}
+use Rattle.std.proofs.Common.{◌≡◌, refl, sym, ap, ◌∙◌, ℕ, ◌≤◌, arith, eqb, Result, Ok, Err}
+use Rattle.std.specs.Prelude.{⊤}
 use Rattle.lists.specs.Lists.{pick}
 use Rattle.house_layout.specs.Reply.{number_of, refusal, said_check}
 use Rattle.house_layout.specs.declared.reply.Refusal.{Refusal}

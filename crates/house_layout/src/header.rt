@@ -70,8 +70,8 @@ pub fn fields_in_range(file: &[u8], h: Header) -> bool
 }
 
 // A record's bytes in an edition.
-#[tactic(auto, unfolding(crate::specs::Layout::record_size))]
 // Kept: an edition is a number of the header, and the definitions of a file say it as one.
+#[tactic(auto, unfolding(crate::specs::Layout::record_size))]
 pub fn record_size(edition: usize) -> usize
     ensures { result ≡ record_size edition }
 {

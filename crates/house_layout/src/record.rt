@@ -23,14 +23,15 @@ pub const PERMIT_BIT: u32 = 31;
 pub struct Record {
     pub target: usize,
     pub kind: usize,
+    // Kept: 0 stands for no record, as in the file's bytes and in the definitions; the number is an index too.
     pub next: usize,
     // None in edition 1, which has no byte for it.
     pub owner: Option<usize>,
 }
 
 // The owner that the record at a place says.
-#[tactic(auto, unfolding(crate::specs::Layout::owner_in, crate::specs::Layout::record_size))]
 // Kept: an edition is a number of the header, as in `record_size`.
+#[tactic(auto, unfolding(crate::specs::Layout::owner_in, crate::specs::Layout::record_size))]
 fn read_owner(file: &[u8], edition: usize, at: usize) -> Option<usize>
     requires { at + record_size edition ≤ length file.now }
     ensures { result ≡ owner_in edition (byte_at file.now (at + 4)) }
@@ -42,6 +43,8 @@ fn read_owner(file: &[u8], edition: usize, at: usize) -> Option<usize>
 }
 
 // Record r of a file whose length is right; with `read_owner` the one place that knows a record's bytes.
+// Kept: `house_file::Frame` is file and header in one type, one crate up, where fields and length have passed; here they have not.
+#[tactic(auto, using(crate::proofs::LayoutLaws::record_laws), unfolding(crate::specs::Layout::record_of))]
 pub fn read_record(file: &[u8], h: Header, r: usize) -> Record
     requires { RecordThere file.now h r }
     ensures { result ≡ record_of file.now r }
@@ -56,7 +59,7 @@ pub fn read_record(file: &[u8], h: Header, r: usize) -> Record
 }
 
 // The place of a kind in a mask of kinds.
-// Kept: a conversion that asks something of its argument is a function.
+// Kept: a kind byte is a number, 255 for a permit, in the file and in the definitions; a conversion that has a `requires` is a function.
 pub fn bit_of(kind: usize) -> u32
     requires { kind < 256 }
     ensures { result ≡ bit_of kind }
@@ -80,6 +83,7 @@ fn legal_target(parties: usize, u: usize, target: usize) -> bool
     target < parties && target != u
 }
 
+// Kept: a kind stays a number after this test too: masks and definitions compute with it.
 fn legal_kind(labels: usize, kind: usize) -> bool
     ensures { result ≡ legal_kind labels kind }
 {
@@ -88,6 +92,7 @@ fn legal_kind(labels: usize, kind: usize) -> bool
 
 // The checks 4, 15, 6, 7, 8 of one record of party u's chain: `mark` is not 0 where the record was reached before, and `row` has
 // the kinds of the chain's earlier records.
+// Kept: `mark` is a byte, since a bool would be a narrower type in a public function.
 #[tactic(auto, unfolding(crate::specs::Fields::judge_record))]
 pub fn check_record(h: Header, u: usize, x: Record, mark: u8, row: Row) -> Result<(), Refusal>
     requires { (h.parties ≤ most_parties) × (h.labels ≤ most_labels) }

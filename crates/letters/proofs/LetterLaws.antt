@@ -1,16 +1,12 @@
 -- The first word of a graph that tells one pair from another is the first that does so in letters, read as symbols. A telling word has
 -- a word of letters that is no greater and holds alike, and reading letters as symbols keeps their order.
-use mathlib.Core.Path.{◌≡◌, refl, sym, ap, ◌∙◌}
-use mathlib.Core.Logic.{◌⊎◌, inl, inr, ⊎_elim, by_cases}
-use mathlib.Core.Bool.{Bool, true, false}
+use Rattle.std.proofs.Common.{◌≡◌, refl, sym, ap, ◌∙◌, ◌⊎◌, inl, inr, ⊎_elim, Bool, true, false}
+use Rattle.std.proofs.Common.{List, [], ◌∷◌, ℕ, zero, suc, ◌<◌, arith, ltb, length}
+use Rattle.std.proofs.Math.Logic.{by_cases}
 use mathlib.Core.List.Memᴰ
-use mathlib.Core.List.{List, [], ◌∷◌, Memᴰ}
-use mathlib.Core.Option.{some, map}
-use Prim.Native.Nat.{ℕ, zero, suc, ◌<◌}
-use native.Mathlib.Omega.{arith}
-use native.Mathlib.Decide.{ℕ_discrete}
-use lib.Dec.{ltb}
-use lib.ListN.{length}
+use mathlib.Core.List.{Memᴰ}
+use Rattle.std.proofs.Math.Option.{some, map}
+use Rattle.std.proofs.Math.Decide.{ℕ_discrete}
 use Rattle.lists.specs.Lists.{first_by, range}
 use Rattle.lists.specs.Order.{Ascending}
 use Rattle.lists.proofs.Cases.{by_test, by_found, by_mem, both}

@@ -3,11 +3,13 @@ ghost use Rattle.std.specs.Prelude.{◌≤◌};
 ghost use Rattle.limits.specs.Limits.{symbol_count};
 
 use crate::MOST_LETTERS;
-use limits::{MOST_PARTIES, PAIR_NUMBERS};
+use crate::pair::mask_of_pair;
+use limits::PAIR_NUMBERS;
 use masks::Table;
 
 // The classes found so far, none of them empty.
-// Kept: a count beside an array, since there is no heap here and room for 32.
+// Kept: a count beside an array, since there is no heap here and room for 32; a const parameter for the 32 would have this one value only.
+// Kept: only the lines that append are alike here and in `Least`, where there is always room, so a generic type for both would be longer.
 #[derive(Clone, Copy)]
 pub struct Classes {
     pub count: usize,
@@ -33,7 +35,7 @@ impl Classes {
     {
         let mut c = Classes::new();
         for k in 0..PAIR_NUMBERS {
-            c = c.with(g.rows[k / MOST_PARTIES].masks[k % MOST_PARTIES])?;
+            c = c.with(mask_of_pair(g, k))?;
         }
         Some(c)
     }

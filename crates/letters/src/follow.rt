@@ -1,17 +1,19 @@
 // The letters that may follow each other: on a path the one leads from a party to a second, the other on from there to a third.
-ghost use Rattle.std.specs.Prelude.{◌<◌};
+ghost use Rattle.std.specs.Prelude.{◌/◌, ◌%◌};
 ghost use Rattle.limits.specs.Limits.{most_parties};
 ghost use Rattle.letters.specs.promises.Following.{LeadsPast, AfterAdded, Follows};
 
 use crate::MOST_LETTERS;
+use crate::pair::mask_of_pair;
 use limits::{MOST_PARTIES, PAIR_NUMBERS};
-use masks::{Row, Table, empty_row, has};
+use masks::{Row, Table, has};
 
-// The letters that lead from y to a party other than x.
-fn letters_past(g: &Table, x: usize, y: usize) -> u32
-    requires { y < most_parties }
-    ensures { LeadsPast g.now x y most_parties result }
+// The letters that lead on from the pair with number k: from its second party to one other than its first.
+fn letters_past(g: &Table, k: usize) -> u32
+    ensures { LeadsPast g.now (k / most_parties) (k % most_parties) most_parties result }
 {
+    let x = k / MOST_PARTIES;
+    let y = k % MOST_PARTIES;
     let mut letters: u32 = 0;
     for z in 0..MOST_PARTIES {
         if z != x {
@@ -38,13 +40,11 @@ fn with_after(row: Row, mask: u32, after: u32) -> Row
 pub fn followers(g: &Table) -> Row
     ensures { Follows g.now result }
 {
-    let mut row = empty_row();
+    let mut row = Row::empty();
     for k in 0..PAIR_NUMBERS {
-        let x = k / MOST_PARTIES;
-        let y = k % MOST_PARTIES;
-        let mask = g.rows[x].masks[y];
+        let mask = mask_of_pair(g, k);
         if mask != 0 {
-            row = with_after(row, mask, letters_past(g, x, y));
+            row = with_after(row, mask, letters_past(g, k));
         }
     }
     row

@@ -1,49 +1,54 @@
 // The symbols that hold for some pair, each the least of those that hold for the same pairs.
 ghost use Rattle.std.specs.Prelude.{◌≡◌, true, ℕ, ◌<◌};
-ghost use Rattle.limits.specs.Limits.{mask_places, symbol_count, pair_numbers};
+ghost use Rattle.limits.specs.Limits.{pair_numbers};
+ghost use Rattle.letters.specs.promises.Letters.{numbers};
 ghost use Rattle.letters.specs.promises.Writing.{SameBelow, UsedBelow, StandsFor, LeastOf, AllLeast};
 
 use crate::MOST_LETTERS;
-use limits::{MASK_PLACES, MOST_PARTIES, PAIR_NUMBERS};
-use masks::{Table, has};
+use crate::pair::mask_of_pair;
+use limits::{LAST_SYMBOL, PAIR_NUMBERS};
+use masks::Table;
+use search::Symbol;
 
 // The symbols found so far, ascending; past the count nothing is meant.
-// Kept: a count beside an array, since there is no heap here and room for 32.
+// Kept: a count beside an array, since there is no heap here and room for 32; a const parameter for the 32 would have this one value only.
 #[derive(Clone, Copy)]
 pub struct Least {
     pub count: usize,
-    pub symbols: [u8; MOST_LETTERS],
+    pub symbols: [Symbol; MOST_LETTERS],
 }
 
 // Whether two symbols hold for the same pairs.
-fn same_symbol(g: &Table, s: u32, other: u32) -> bool
-    requires { (s < mask_places) × (other < mask_places) }
-    ensures { result ≡ true → SameBelow g.now s other pair_numbers }
+fn same_symbol(g: &Table, s: Symbol, other: Symbol) -> bool
+    ensures { result ≡ true → SameBelow g.now s.number other.number pair_numbers }
 {
     (0..PAIR_NUMBERS).all(|k| {
-        let mask = g.rows[k / MOST_PARTIES].masks[k % MOST_PARTIES];
-        (mask >> s) & 1 == (mask >> other) & 1
+        let mask = mask_of_pair(g, k);
+        s.is_in(mask) == other.is_in(mask)
     })
 }
 
 // The symbols that hold for some pair.
+#[tactic(auto, using(crate::proofs::WritingLaws::used_more))]
 fn used_symbols(g: &Table) -> u32
     ensures { UsedBelow g.now pair_numbers result }
 {
     let mut used: u32 = 0;
     for k in 0..PAIR_NUMBERS {
-        used |= g.rows[k / MOST_PARTIES].masks[k % MOST_PARTIES];
+        used |= mask_of_pair(g, k);
     }
     used
 }
 
 impl Least {
     // Whether one of the symbols found holds for the same pairs.
-    fn stands(&self, g: &Table, s: u32) -> bool
-        requires { (s < symbol_count) × LeastOf g.now s self.now }
-        ensures { result ≡ true → (i : ℕ) × StandsFor g.now self.now.symbols self.now.count s i }
+    fn stands(&self, g: &Table, s: Symbol) -> bool
+        requires { LeastOf g.now s.number self.now }
+        ensures { result ≡ true → (i : ℕ) × StandsFor g.now (numbers self.now.symbols) self.now.count s.number i }
     {
-        (0..self.count).any(|i| same_symbol(g, self.symbols[i] as u32, s))
+        self.symbols[..self.count]
+            .iter()
+            .any(|found| same_symbol(g, *found, s))
     }
 
     // The symbols of a graph.
@@ -53,11 +58,12 @@ impl Least {
         let used = used_symbols(g);
         let mut l = Least {
             count: 0,
-            symbols: [0; MOST_LETTERS],
+            symbols: [Symbol { number: 0 }; MOST_LETTERS],
         };
-        for s in 0..MASK_PLACES {
-            if has(used, s) && !l.stands(g, s) {
-                l.symbols[l.count] = s as u8;
+        for number in 0..=LAST_SYMBOL {
+            let s = Symbol { number };
+            if s.is_in(used) && !l.stands(g, s) {
+                l.symbols[l.count] = s;
                 l.count += 1;
             }
         }

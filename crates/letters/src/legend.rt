@@ -1,21 +1,17 @@
 // What letters stand for, and a graph written in them.
-ghost use Rattle.std.specs.Prelude.{ℕ, ◌≤◌, ◌<◌, get_or};
-ghost use Rattle.limits.specs.Limits.{symbol_count};
-
 use crate::MOST_LETTERS;
+use crate::span::Span;
 use limits::MOST_PARTIES;
-use masks::{Row, Table, empty_row, has, with};
+use masks::{Row, Table, with};
+use search::Symbol;
 
-// The letters below `base` stand for symbols, those from there to below `end` for classes.
+// The letters below the span's base stand for symbols, the others for classes.
+// Kept: arrays beside a base and an end, since there is no heap here and room for 32.
 #[derive(Clone, Copy)]
 pub struct Legend {
-    pub base: usize,
-    pub end: usize,
-    pub symbols: [u8; MOST_LETTERS],
+    pub span: Span,
+    pub symbols: [Symbol; MOST_LETTERS],
     pub classes: [u32; MOST_LETTERS],
-    ghost order: { base ≤ end },
-    ghost few: { end ≤ symbol_count },
-    ghost below: { (i : ℕ) → i < base → get_or symbols i 0 < symbol_count },
 }
 
 impl Legend {
@@ -27,11 +23,11 @@ impl Legend {
         ensures { LettersIn self.now mask result }
     {
         let mut letters: u32 = 0;
-        for i in 0..self.end {
-            let on = if i < self.base {
-                has(mask, self.symbols[i] as u32)
+        for i in 0..self.span.end {
+            let on = if i < self.span.base {
+                self.symbols[i].is_in(mask)
             } else {
-                mask | self.classes[i - self.base] == mask
+                mask | self.classes[i - self.span.base] == mask
             };
             if on {
                 letters = with(letters, i as u32);
@@ -55,7 +51,7 @@ impl Legend {
     pub fn write(&self, g: &Table) -> Table
         ensures { Written self.now g.now most_parties result }
     {
-        let mut rows = [empty_row(); MOST_PARTIES];
+        let mut rows = [Row::empty(); MOST_PARTIES];
         for u in 0..MOST_PARTIES {
             rows[u] = self.row_in(g.rows[u]);
         }

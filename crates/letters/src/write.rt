@@ -7,20 +7,25 @@ use crate::different::Classes;
 use crate::follow::followers;
 use crate::least::Least;
 use crate::legend::Legend;
+use crate::span::Span;
 use crate::written::Letters;
 use masks::Table;
+use search::Symbol;
 
 // The graph in the legend's letters, of which words have those below `base`.
 fn in_letters(g: &Table, legend: &Legend, base: usize) -> Letters
-    requires { base ≤ legend.now.end }
+    requires { base ≤ legend.now.span.end }
     ensures { InLetters g.now legend.now base result }
 {
     let graph = legend.write(g);
     let follow = followers(&graph);
     let symbols = legend.symbols;
-    Letters {
+    let span = Span {
         base,
-        end: legend.end,
+        end: legend.span.end,
+    };
+    Letters {
+        span,
         symbols,
         graph,
         follow,
@@ -40,9 +45,9 @@ pub fn letters_of(g: &Table) -> Option<Letters>
     }
     let symbols = l.symbols;
     let classes = c.masks;
+    let span = Span { base: l.count, end };
     let legend = Legend {
-        base: l.count,
-        end,
+        span,
         symbols,
         classes,
     };
@@ -59,10 +64,14 @@ pub fn class_letters(g: &Table) -> Option<Letters>
         return None;
     }
     let classes = c.masks;
-    let legend = Legend {
+    let span = Span {
         base: 0,
         end: c.count,
-        symbols: [0; MOST_LETTERS],
+    };
+    let legend = Legend {
+        span,
+        // Kept: zeros, since no letter stands for a symbol here: the span's base, 0, says so already, and an Option would say it twice.
+        symbols: [Symbol { number: 0 }; MOST_LETTERS],
         classes,
     };
     Some(in_letters(g, &legend, c.count))

@@ -1,6 +1,5 @@
 -- How the limits follow from one another: each by computation.
-use mathlib.Core.Path.{◌≡◌, refl}
-use Prim.Native.Nat.{◌+◌, ◌-◌, ◌*◌}
+use Rattle.std.proofs.Common.{◌≡◌, refl, ◌+◌, ◌-◌, ◌*◌}
 use Rattle.limits.specs.Limits.{most_parties, most_labels, longest_word, symbol_count, last_symbol, most_records, pair_numbers, mask_places}
 
 -- a word has at most one symbol fewer than there are parties

@@ -5,3 +5,4 @@ pub mod Distinct
 pub mod Pointwise
 pub mod Pieces
 pub mod ReorderLaws
+pub mod Ranges

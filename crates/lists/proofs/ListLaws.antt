@@ -1,16 +1,19 @@
 -- What the tests and choices over lists say of their members, each by induction on the list. Assumes nothing.
-use mathlib.Core.Path.{◌≡◌, refl, sym, ap, ◌∙◌}
-use mathlib.Core.Bool.{Bool, true, false, ◌&&◌, ◌||◌}
+use Rattle.std.proofs.Common.{◌≡◌, refl, sym, ap, ◌∙◌, Bool, true, false, ◌&&◌, ◌||◌, List, [], ◌∷◌, ◌++◌}
+use Rattle.std.proofs.Common.{map, ℕ, zero, suc, ◌+◌, ◌≤◌, ◌<◌, arith, eqb, length, eqb-true, eq-eqb}
+use Rattle.std.proofs.lemmas.Bool.{eqb-false}
 use mathlib.Core.List.Memᴰ
-use mathlib.Core.List.{List, [], ◌∷◌, ◌++◌, map, Memᴰ}
-use mathlib.Core.Option.{none, some}
-use Prim.Native.Nat.{ℕ, zero, suc, ◌+◌, ◌≤◌, ◌<◌}
-use native.Mathlib.Omega.{arith}
-use lib.Dec.{eqb}
-use lib.ListN.{length}
-use borrow.Author.Tests.{eqb-true, eqb-false, eq-eqb}
+use mathlib.Core.List.{Memᴰ}
+use Rattle.std.proofs.Math.Option.{none, some}
+use Rattle.std.specs.List.{list_all}
 use Rattle.lists.specs.Lists.{all_of, any_of, filter_by, first_by, flat_map, member, up_from, range}
 use Rattle.lists.proofs.Cases.{by_test, by_mem, by_append, clash, both}
+
+-- every element passes, in the words of std
+pub all_is : {A : Type 0} (p : A → Bool) (l : List A) → list_all p l ≡ all_of p l
+unfolding all_of
+all_is p [] = refl
+all_is p (x ∷ l) = ap (λ q. p x && q) (all_is p l)
 
 module _ {A : Type 0} where
   pub all_in : (p : A → Bool) (l : List A) → all_of p l ≡ true → {x : A} → Memᴰ x l → p x ≡ true

@@ -1,15 +1,11 @@
 -- Laws of lists in order, of lists without repetition and of sums, each by induction on the list. Assumes nothing.
-use mathlib.Core.Path.{◌≡◌, refl, sym, ap, ◌∙◌}
-use mathlib.Core.Logic.{◌⊎◌, ◌↔◌, inl, inr, ⊎_elim}
-use mathlib.Core.Bool.{Bool, true, false}
+use Rattle.std.proofs.Common.{◌≡◌, refl, sym, ap, ◌∙◌, ◌⊎◌, ◌↔◌, inl, inr, ⊎_elim, Bool, true, false, List}
+use Rattle.std.proofs.Common.{[], ◌∷◌, ◌++◌, map, ℕ, zero, suc, ◌+◌, ◌≤◌, ◌<◌, arith, leb, ltb, length}
+use Rattle.std.proofs.Common.{length-append, lt-ltb, le-ltb, ltb-true, le-leb, leb-true, leb-false}
 use mathlib.Core.List.Memᴰ
-use mathlib.Core.List.{List, [], ◌∷◌, ◌++◌, map, Memᴰ}
-use mathlib.Core.Option.{none, some}
-use Prim.Native.Nat.{ℕ, zero, suc, ◌+◌, ◌≤◌, ◌<◌}
-use native.Mathlib.Omega.{arith}
-use lib.Dec.{leb, ltb}
-use lib.ListN.{length, length-append}
-use borrow.Author.Tests.{lt-ltb, le-ltb, ltb-true, le-leb, leb-true, leb-false}
+use mathlib.Core.List.{Memᴰ}
+use Rattle.std.proofs.Math.Option.{none, some}
+use Rattle.std.proofs.lemmas.List.{length-map}
 use Rattle.lists.specs.Lists.{any_of, filter_by, first_by, flat_map, up_from, range}
 use Rattle.lists.specs.Order.{Ascending, Distinct, first_element, only_if, sum_of, greatest_of}
 use Rattle.lists.proofs.Cases.{by_test, by_found, by_mem, by_append, clash, both}
@@ -202,8 +198,7 @@ ascending_map R Q f h (x ∷ l) s = (
 )
 
 pub length_map : {A B : Type 0} (f : A → B) (l : List A) → length (map f l) ≡ length l
-length_map f [] = refl
-length_map f (x ∷ l) = ap suc (length_map f l)
+length_map f l = length-map l f
 
 pub length_flat : {A B : Type 0} (f : A → List B) (l : List A) → length (flat_map f l) ≡ sum_of (λ x. length (f x)) l
 unfolding flat_map sum_of

@@ -1,20 +1,13 @@
 -- Lists made of pieces: what stands at a place of pieces joined, and pieces over a range. By induction on the list.
-use mathlib.Core.Path.{◌≡◌, refl, sym, ap, ◌∙◌}
-use mathlib.Core.Logic.{by_cases}
-use mathlib.Core.List.{List, [], ◌∷◌, ◌++◌, map, append_assoc, append-nil, Memᴰ}
-use Prim.Native.Nat.{ℕ, zero, suc, ◌+◌, ◌*◌, ◌-◌, ◌≤◌, ◌<◌}
-use native.Mathlib.Omega.{arith}
-use native.Mathlib.Nat.{mul-suc, mul-zero, suc-mul}
-use native.Mathlib.Decide.{dec_lt}
-use lib.ListN.{length, get_or, length-append, get_or-append}
-use lib.Seq.{get_or-append-add}
+use Rattle.std.proofs.Common.{◌≡◌, refl, sym, ap, ◌∙◌, List, [], ◌∷◌, ◌++◌, append_assoc, append-nil, ℕ, zero, suc, ◌+◌, ◌*◌, ◌-◌}
+use Rattle.std.proofs.Common.{◌≤◌, ◌<◌, arith, mul-suc, mul-zero, suc-mul, length, get_or, length-append, get_or-append-add}
+use Rattle.std.proofs.Math.Logic.{by_cases}
+use mathlib.Core.List.{Memᴰ}
+use Rattle.std.proofs.Math.Decide.{dec_lt}
+use Rattle.std.proofs.Math.ListN.{get_or-append}
+pub use Rattle.std.proofs.lemmas.List.{get_or-map as get_or_map}
 use Rattle.lists.specs.Lists.{flat_map, up_from, range}
 use Rattle.lists.proofs.Pointwise.{up_append}
-
-pub get_or_map : {A B : Type 0} (f : A → B) (l : List A) (i : ℕ) (d : A) (e : B) → i < length l → get_or (map f l) i e ≡ f (get_or l i d)
-get_or_map f [] i d e h = absurd (omega arith)
-get_or_map f (x ∷ l) zero d e h = refl
-get_or_map f (x ∷ l) (suc i) d e h = get_or_map f l i d e (omega arith)
 
 -- what stands at a place of a range
 pub up_at : (a k i d : ℕ) → i < k → get_or (up_from a k) i d ≡ a + i

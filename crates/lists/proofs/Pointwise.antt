@@ -1,14 +1,10 @@
 -- List functions whose tests or values agree on the members agree; ranges and filters of a longer range. By induction on the list.
-use mathlib.Core.Path.{◌≡◌, refl, sym, ap, ◌∙◌}
-use mathlib.Core.Bool.{Bool, true, false, ◌&&◌}
+use Rattle.std.proofs.Common.{◌≡◌, refl, sym, ap, ◌∙◌, Bool, true, false, ◌&&◌, List, [], ◌∷◌, ◌++◌, map, append-nil}
+use Rattle.std.proofs.Common.{ℕ, zero, suc, ◌+◌, ◌-◌, ◌≤◌, ◌<◌, max, arith, add-one, length, get_or, take, take-suc}
 use mathlib.Core.List.Memᴰ
-use mathlib.Core.List.{List, [], ◌∷◌, ◌++◌, map, append-nil, Memᴰ}
-use mathlib.Core.Option.{some}
-use Prim.Native.Nat.{ℕ, zero, suc, ◌+◌, ◌-◌, ◌≤◌, ◌<◌, max}
-use native.Mathlib.Omega.{arith}
-use native.Mathlib.Numerals.{add-one}
-use lib.ListN.{length, get_or, take}
-use lib.Seq.{take-suc}
+use mathlib.Core.List.{Memᴰ}
+use Rattle.std.proofs.Math.Option.{some}
+pub use Rattle.std.proofs.lemmas.List.{map-append as map_append}
 use Rattle.lists.specs.Lists.{filter_by, first_by, flat_map, up_from, range}
 use Rattle.lists.specs.Order.{Distinct, sum_of, greatest_of}
 use Rattle.lists.proofs.Cases.{by_test, by_mem, clash}
@@ -127,10 +123,6 @@ distinct_short n l d f = omega (arith, distinct_most l (range n) d (λ x m. rang
 pub map_same : {A B : Type 0} (f g : A → B) (l : List A) → ((x : A) → Memᴰ x l → f x ≡ g x) → map f l ≡ map g l
 map_same f g [] h = refl
 map_same f g (x ∷ l) h = rw (h x (Memᴰ.head refl), map_same f g l (λ y m. h y (Memᴰ.tail m))) refl
-
-pub map_append : {A B : Type 0} (f : A → B) (l m : List A) → map f (l ++ m) ≡ map f l ++ map f m
-map_append f [] m = refl
-map_append f (x ∷ l) m = rw (map_append f l m) refl
 
 -- numbers below a bound are so at every place, and past the end there is 0
 pub get_or_below : (bound : ℕ) → 0 < bound → (l : List ℕ) → ((x : ℕ) → Memᴰ x l → x < bound) → (i : ℕ) → get_or l i 0 < bound

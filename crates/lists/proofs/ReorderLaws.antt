@@ -1,11 +1,8 @@
 -- Another order changes neither the length nor the entries, by induction on the reordering.
 -- Tests of all or of some entries depend on the entries only.
-use mathlib.Core.Path.{◌≡◌, refl, sym, ap, ◌∙◌}
-use mathlib.Core.Bool.{Bool}
+use Rattle.std.proofs.Common.{◌≡◌, refl, sym, ap, ◌∙◌, Bool, List, [], ◌∷◌, suc, length}
 use mathlib.Core.List.Memᴰ
-use mathlib.Core.List.{List, [], ◌∷◌, Memᴰ}
-use Prim.Native.Nat.{suc}
-use lib.ListN.{length}
+use mathlib.Core.List.{Memᴰ}
 use Rattle.lists.specs.Lists.{all_of, any_of}
 use Rattle.lists.specs.Reorder.{Reordered, nothing, one_more, exchanged, in_turn}
 use Rattle.lists.specs.Reorder.{Alike, Permuted, SameMembers, ReorderedTerms, SameTerms}

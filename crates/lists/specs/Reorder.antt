@@ -1,7 +1,7 @@
 -- Lists in another order (02, Ticket 3), and lists with the same entries. Over any type of entry, and for entries that may change
 -- as R allows: with "is in another order" for R, a list of lists is in another order at both levels.
-use Rattle.std.specs.Prelude.{◌≡◌}
-use mathlib.Core.List.{List, [], ◌∷◌, Memᴰ}
+use Rattle.std.specs.Prelude.{◌≡◌, List, [], ◌∷◌}
+use mathlib.Core.List.{Memᴰ}
 
 module _ {A : Type 0} where
   -- the second list is the first in another order, each entry replaced by one that R allows; the number of each stays.

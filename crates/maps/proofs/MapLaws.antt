@@ -1,14 +1,9 @@
 -- A map that passes the check takes a pair to one that has at least as many paths with each word.
 -- While the check goes on: the images seen so far are those of the mask.
-use mathlib.Core.Path.{◌≡◌, sym, ◌∙◌}
-use mathlib.Core.Bool.{true, false}
-use mathlib.Core.Logic.{by_cases}
-use Prim.Native.Nat.{ℕ, zero, suc, ◌+◌, ◌<◌}
-use Rattle.std.proofs.Common.{List, None, Some, replicate}
-use lib.ListN.{length, get_or, set}
-use lib.Seq.{get_or-set_same, get_or-set_other}
-use native.Mathlib.Omega.{arith}
-use native.Mathlib.Decide.{dec_lt}
+use Rattle.std.proofs.Common.{◌≡◌, sym, ◌∙◌, true, false, ℕ, zero, suc, ◌+◌, ◌<◌, List, None, Some, replicate}
+use Rattle.std.proofs.Common.{length, get_or, set, get_or-set_same, get_or-set_other, arith}
+use Rattle.std.proofs.Math.Logic.{by_cases}
+use Rattle.std.proofs.Math.Decide.{dec_lt}
 use Rattle.lists.proofs.Cases.{both}
 use Rattle.masks.specs.promises.Mask.{test_bit, with_bit}
 use Rattle.masks.specs.declared.Table.{Table}
@@ -16,7 +11,6 @@ use Rattle.masks.proofs.BitLaws.{test_with_same, test_with_other}
 use Rattle.rebac.specs.Matter.{pair}
 use Rattle.rebac.proofs.CarriedLaws.{count_carried}
 use Rattle.search.specs.promises.PairSearch.{table_graph}
-use Rattle.maps.specs.promises.Images.{OneToOne}
 use Rattle.maps.specs.promises.Maps.{image_of, CarriesSymbols, Covered}
 use Rattle.maps.specs.declared.carry.Map.{Map}
 
@@ -32,11 +26,9 @@ pub record Used (n : ℕ) (image : List ℕ) (used u : ℕ) : Type 0 where
   pub kept : (x : ℕ) → x < u → test_bit used (get_or image x 0) ≡ true
   pub one : (x y : ℕ) → x < u → y < u → get_or image x 0 ≡ get_or image y 0 → x ≡ y
 
-pub used_none : (n : ℕ) (image : List ℕ) → Used n image 0 0
-used_none n image = record { inside = λ x h. absurd (omega arith); kept = λ x h. absurd (omega arith); one = λ x y h k. absurd (omega arith) }
-
 -- one more image, w for u, which the mask doesn't have
-module _ (n : ℕ) (image : List ℕ) (used u w : ℕ) (i : Used n image used u) (h : w < n) (e : test_bit used w ≡ false) (s : u < length image) where
+module _ (n : ℕ) (image : List ℕ) (used u w : ℕ) (i : Used n image used u) (h : w < n) (e : test_bit used w ≡ false)
+    (s : u < length image) where
   -- a party below u + 1 is one below u, or u itself
   below : {G : Type 0} (x : ℕ) → x < u + 1 → (x < u → G) → (x ≡ u → G) → G
   below x l f g = by_cases (dec_lt x u) f (λ z. g (omega (arith, z)))
@@ -62,9 +54,6 @@ module _ (n : ℕ) (image : List ℕ) (used u w : ℕ) (i : Used n image used u)
         (λ b. absurd (fresh x a (q ∙ rw b new))))
         (λ a. below y k (λ b. absurd (fresh y b (sym q ∙ rw a new))) (λ b. a ∙ sym b));
   }
-
-pub used_all : (n : ℕ) (image : List ℕ) (used : ℕ) → Used n image used n → OneToOne n image
-used_all n image used i = record { inside = i.inside; one = i.one }
 
 pub map_covers : (t : Table) (m : Map) → CarriesSymbols t m
     → (first second u v : ℕ) → first < m.parties → image_of m first ≡ u → image_of m second ≡ v

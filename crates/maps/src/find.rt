@@ -10,79 +10,87 @@ use std::cmp::Reverse;
 // The symbols of kinds 0 and 2, which say that a relation holds.
 const RELATIONS: u32 = 0x5555_5555;
 
-// A map under way: the image of each party that has one, and the set of these images.
+// A map of the graph's parties under way: the image of each party that has one, and the set of these images.
 #[derive(Clone, Copy)]
-struct Partial {
+struct Partial<'a> {
+    graph: &'a Graph,
     images: [Option<u8>; MOST_PARTIES],
     used: u32,
     ghost within: { (u v : ℕ) → get_or images u None ≡ Some v → v < most_parties },
 }
 
-impl Partial {
-    fn empty() -> Partial {
+impl<'a> Partial<'a> {
+    fn empty(graph: &'a Graph) -> Partial<'a>
+        ensures { result.graph.now ≡ graph.now }
+    {
         Partial {
+            graph,
             images: [None; MOST_PARTIES],
             used: 0,
         }
     }
 
+    // Kept: u indexes 32 images, v is a place of a mask; a type for the two bounds would be opened in both lines and serve this alone.
     // The map with one more image, v for u.
-    fn with_image(mut self, u: usize, v: usize) -> Partial
+    fn with_image(mut self, u: usize, v: usize) -> Partial<'a>
         requires { (u < most_parties) × (v < most_parties) }
+        ensures { result.graph.now ≡ self.entry.graph.now }
     {
         self.images[u] = Some(v as u8);
         self.used = masks::with(self.used, v as u32);
         self
     }
 
+    // Kept: parties are held to the graph of the map, as an index to its slice's length; a type for them would carry the graph along.
     // Whether v may be the image of u: it is no party's image yet, and the symbols between u and each mapped party, both ways, stand
     // between the images.
-    fn agrees(&self, g: &Graph, u: usize, v: usize) -> bool
-        requires party { u < g.now.parties }
-        requires image { v < g.now.parties }
+    fn agrees(&self, u: usize, v: usize) -> bool
+        requires party { u < self.now.graph.now.parties }
+        requires image { v < self.now.graph.now.parties }
     {
-        let rows = &g.table.rows;
+        let rows = &self.graph.table.rows;
         !masks::has(self.used, v as u32)
-            && (0..g.parties).all(|x| match self.images[x] {
-                Some(y) => {
+            && (0..self.graph.parties).all(|x| {
+                self.images[x].is_none_or(|y| {
                     let y = y as usize;
                     let s = rows[u].masks[x];
                     let t = rows[x].masks[u];
                     s & rows[v].masks[y] == s && t & rows[y].masks[v] == t
-                }
-                None => true,
+                })
             })
     }
 
     // How many of the mapped parties have a relation with u.
-    fn relations(&self, g: &Graph, u: usize) -> usize
-        requires { u < g.now.parties }
+    fn relations(&self, u: usize) -> usize
+        requires { u < self.now.graph.now.parties }
     {
-        let rows = &g.table.rows;
-        (0..g.parties)
-            .filter(|&x| self.images[x].is_some()
+        let rows = &self.graph.table.rows;
+        let images = &self.images;
+        (0..self.graph.parties)
+            .filter(|&x| images[x].is_some()
                 && (rows[u].masks[x] | rows[x].masks[u]) & RELATIONS != 0)
             .count()
     }
 
     // The party to be mapped next, where one is left: of those with most relations to the mapped ones the lowest.
-    fn next_party(&self, g: &Graph) -> Option<usize>
-        ensures { IfSome result (λ u. u < g.now.parties) }
+    fn next_party(&self) -> Option<usize>
+        ensures { IfSome result (λ u. u < self.now.graph.now.parties) }
     {
-        (0..g.parties)
-            .filter(|&u| self.images[u].is_none())
-            .min_by_key(|&u| Reverse(self.relations(g, u)))
+        let images = &self.images;
+        (0..self.graph.parties)
+            .filter(|&u| images[u].is_none())
+            .min_by_key(|&u| Reverse(self.relations(u)))
     }
 
     // An image for u: itself, or else the lowest party that may be one.
-    fn find_image(&self, g: &Graph, u: usize) -> Option<usize>
-        requires { u < g.now.parties }
-        ensures { IfSome result (λ v. v < g.now.parties) }
+    fn find_image(&self, u: usize) -> Option<usize>
+        requires { u < self.now.graph.now.parties }
+        ensures { IfSome result (λ v. v < self.now.graph.now.parties) }
     {
-        if self.agrees(g, u, u) {
+        if self.agrees(u, u) {
             return Some(u);
         }
-        (0..g.parties).find(|&v| self.agrees(g, u, v))
+        (0..self.graph.parties).find(|&v| self.agrees(u, v))
     }
 }
 
@@ -91,15 +99,15 @@ pub fn find_map(q: &TwoPairsIn) -> Option<Map>
     ensures { IfSome result (λ m. m.parties ≡ q.now.graph.parties) }
 {
     let g = &q.graph;
-    let mut p = Partial::empty().with_image(q.first, q.u);
-    if !p.agrees(g, q.second, q.v) {
+    let mut p = Partial::empty(g).with_image(q.first, q.u);
+    if !p.agrees(q.second, q.v) {
         return None;
     }
     p = p.with_image(q.second, q.v);
     for _ in 0..g.parties {
-        let Some(x) = p.next_party(g) else { break };
-        let y = p.find_image(g, x)?;
+        let Some(x) = p.next_party() else { break };
+        let y = p.find_image(x)?;
         p = p.with_image(x, y);
     }
-    Map::one_to_one(&p.images, g.parties)
+    Map::one_to_one(g, &p.images)
 }

@@ -11,10 +11,5 @@ pub fn carried(q: &TwoPairsIn) -> bool
     ensures { result ≡ true
         → Covered q.now.graph.parties q.now.graph.table (pair q.now.first q.now.second) (pair q.now.u q.now.v) }
 {
-    match find_map(q) {
-        Some(m) => m.image_of(q.first) == q.u
-            && m.image_of(q.second) == q.v
-            && m.carries(&q.graph.table),
-        None => false,
-    }
+    find_map(q).is_some_and(|m| m.takes(q))
 }

@@ -1,17 +1,16 @@
 -- One binary digit of a number, at any width: by splitting the number at the digit. Assumes nothing.
-use mathlib.Core.Path.{◌≡◌, refl, sym, ap, ◌∙◌, subst}
-use mathlib.Core.Bool.{true, false, ◌&&◌, ◌||◌}
-use mathlib.Core.Logic.{◌⊎◌, inl, inr, ⊎_elim, by_cases}
-use Prim.Native.Nat.{ℕ, zero, suc, ◌+◌, ◌-◌, ◌*◌, ◌/◌, ◌%◌, ◌^◌, ◌≤◌, ◌<◌}
-use native.Mathlib.Nat.{mod-lt, div_self, div-eq_of_lt, zero-div, pow-suc, mul-mod_left, one-mul}
-use native.Mathlib.Omega.{arith}
-use native.Mathlib.Decide.{dec_lt}
-use lib.Dec.{eqb, lit<}
-use lib.Arith.{bin_ind}
-use lib.Pow.{pow_pos, pow-lt, pow-add, shl-shr, shr-shr, split, shl_exact, ones_lt, ones_split, high}
-use lib.Bits.{bit_and, bit_or, and_mask, and_shr, and_mod, or_shr, or_mod, or_lt, or_zero_r, or_block, or_step}
-use lib.Count.{ones, ones_cat, ones_step}
-use borrow.Author.Tests.{eqb-false, eq-eqb, ne_eqb}
+use Rattle.std.proofs.Common.{◌≡◌, refl, sym, ap, ◌∙◌, subst, true, false, ◌&&◌, ◌||◌, ◌⊎◌, inl, inr, ⊎_elim, ℕ}
+use Rattle.std.proofs.Common.{zero, suc, ◌+◌, ◌-◌, ◌*◌, ◌/◌, ◌%◌, ◌^◌, ◌≤◌, ◌<◌, mod-lt, pow-suc, one-mul, arith}
+use Rattle.std.proofs.Common.{eqb, lit<, pow_pos, pow-add, shr-shr, shl_exact, bit_and, bit_or, eq-eqb, ne_eqb}
+use Rattle.std.proofs.lemmas.Bool.{eqb-false}
+use Rattle.std.proofs.lemmas.Nat.{and_mask, and_shr, and_mod, or_shr, or_mod, or_block, ones_cat}
+use Rattle.std.proofs.Math.Logic.{by_cases}
+use Rattle.std.proofs.Math.Nat.{div_self, div-eq_of_lt, zero-div, mul-mod_left}
+use Rattle.std.proofs.Math.Decide.{dec_lt}
+use Rattle.std.proofs.Math.Arith.{bin_ind}
+use Rattle.std.proofs.Math.Pow.{pow-lt, shl-shr, split, ones_lt, ones_split, high}
+use lib.Bits.{or_zero_r, or_step}
+use lib.Count.{ones, ones_step}
 use Rattle.lists.proofs.Cases.{and_right, or_true}
 use Rattle.masks.specs.promises.Mask.{bit_at, test_bit, with_bit}
 
@@ -63,9 +62,6 @@ bit_with_same n v =
 pub bit_with_other : (n v k : ℕ) → (k ≡ v → ⊥) → bit_at (bit_or n (2 ^ v)) k ≡ bit_at n k
 bit_with_other n v k ne =
     or_bit n v k ∙ ap (λ (x : ℕ). bit_or (bit_at n k) x) (pow_bit_other v k ne) ∙ or_zero_r (bit_at n k)
-
-pub with_lt : (w n v : ℕ) → n < 2 ^ w → v < w → bit_or n (2 ^ v) < 2 ^ w
-with_lt w n v h l = or_lt w n (2 ^ v) h (pow-lt l)
 
 -- the same of the test
 pub test_with_same : (n v : ℕ) → test_bit (with_bit n v) v ≡ true

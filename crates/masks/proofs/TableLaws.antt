@@ -1,7 +1,5 @@
 -- Rows and tables made by a repeat: every element is the repeated one. Assumes nothing.
-use mathlib.Core.Path.{◌≡◌, refl}
-use Prim.Native.Nat.{ℕ, zero, suc}
-use lib.ListN.{get_or, replicate}
+use Rattle.std.proofs.Common.{◌≡◌, refl, ℕ, zero, suc, get_or, replicate}
 use Rattle.masks.specs.promises.Table.{no_row, mask_in}
 use Rattle.masks.specs.declared.Row.{Row}
 

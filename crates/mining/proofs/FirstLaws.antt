@@ -1,31 +1,24 @@
 -- The pair's first word: where there is none the pair has no word, else the term begins with it.
-use mathlib.Core.Path.{◌≡◌, refl, sym, ap, ◌∙◌}
-use mathlib.Core.List.{List, [], ◌∷◌, append-nil}
-use mathlib.Core.Option.{none, some}
-use Rattle.std.specs.Prelude.{Result}
-use Prim.Native.Nat.{ℕ, ◌+◌, ◌≤◌}
-use native.Mathlib.Omega.{arith}
-use lib.ListN.{length}
+use Rattle.std.proofs.Common.{◌≡◌, refl, sym, ap, ◌∙◌, List, [], ◌∷◌, append-nil, Result, ℕ, ◌+◌, ◌≤◌, arith, length}
+use Rattle.std.proofs.Math.Option.{none, some}
 use Rattle.lists.specs.Lists.{flat_map}
-use Rattle.lists.specs.Order.{first_element, sum_of}
+use Rattle.lists.specs.Order.{first_element}
 use Rattle.lists.proofs.Cases.{clash}
 use Rattle.rebac.specs.Matter.{Matter, Pair}
 use Rattle.rebac.specs.Words.{Word}
 use Rattle.rebac.specs.Verdict.{Verdict, convertible, no_word, rivalled, words_of, judge}
-use Rattle.rebac.specs.Mining.{begin, term_of}
 use Rattle.rebac.specs.NextWord.{pair_words, next_word}
 use Rattle.rebac.proofs.NextWordLaws.{first_word}
-use Rattle.graph.specs.declared.Archive.{Archive}
-use Rattle.graph.specs.promises.Archive.{Shows}
 use Rattle.fields.specs.Numbers.{u16_bytes}
-use Rattle.rule_bytes.specs.ListBytes.{encode_term}
 use Rattle.fields.specs.promises.Writing.{put}
-use Rattle.rule_bytes.proofs.RoundTrip.{term_size, word_size}
 use Rattle.fields.proofs.PutLaws.{put_over}
+use Rattle.graph.specs.declared.archive.Archive.{Archive}
+use Rattle.graph.specs.promises.Archive.{Shows}
+use Rattle.rule_bytes.specs.ListBytes.{encode_term}
 use Rattle.mining.specs.promises.Building.{problem_in, first_bytes, first_term, term_bytes, OutcomeAs}
 use Rattle.mining.specs.declared.build.Obstacle.{Obstacle}
 use Rattle.mining.proofs.ArchiveLaws.{problem_shown}
-use Rattle.mining.proofs.BuildLaws.{size_grows}
+use Rattle.mining.proofs.BuildLaws.{one_size, first_part}
 
 head_nil : {A : Type 0} (l : List A) → first_element l ≡ none → l ≡ []
 head_nil [] e = refl
@@ -35,19 +28,15 @@ head_cons : {A : Type 0} (l : List A) {x : A} → first_element l ≡ some x →
 head_cons [] e = clash (cc e)
 head_cons (y ∷ l) e = (l, cc e)
 
--- the bytes of a term of no word and of one
+-- the bytes of a term of no word
 pub no_words : u16_bytes 0 ≡ encode_term []
 unfolding encode_term flat_map
 no_words = sym (append-nil (u16_bytes 0))
 
-one_size : (v : Word) → length (encode_term (v ∷ [])) ≡ 3 + length v
-unfolding sum_of
-one_size v = term_size (v ∷ []) ∙ omega (arith, word_size v)
-
-module _ {M : Matter} {a : Archive} (h : Shows M a) (p : Pair) where
+module _ (a : Archive) {M : Matter} (h : Shows M a) (p : Pair) where
   words_shown : words_of (problem_in a) p ≡ pair_words M p
   unfolding pair_words
-  words_shown = rw (problem_shown h) refl
+  words_shown = rw (problem_shown a h) refl
 
   pub first_none : next_word M p [] ≡ none → judge (problem_in a) p ≡ no_word p
   unfolding judge
@@ -70,14 +59,9 @@ module _ {M : Matter} {a : Archive} (h : Shows M a) (p : Pair) where
   first_size {v} e = ap length (first_bytes_lem e) ∙ one_size v
 
 module _ (a : Archive) (p : Pair) where
-  -- the first word is part of the term
-  pub first_part : length (first_bytes a p) ≤ length (term_bytes a p)
-  unfolding first_bytes term_bytes term_of
-  first_part = size_grows (problem_in a) p (begin (problem_in a) p (words_of (problem_in a) p)) (problem_in a).pairs
-
   -- the whole term leaves nothing of its first word's bytes
   pub outcome_over : (at : ℕ) (b new : List ℕ) (v : Verdict Pair) (r : Result ℕ Obstacle) → at ≤ length b
       → OutcomeAs a p at (put b at (first_bytes a p)) new v r → OutcomeAs a p at b new v r
-  outcome_over at b new convertible r h k = (k.0, k.1 ∙ put_over b at (first_bytes a p) (term_bytes a p) h first_part)
+  outcome_over at b new convertible r h k = (k.0, k.1 ∙ put_over b at (first_bytes a p) (term_bytes a p) h (first_part a p))
   outcome_over at b new (no_word x) r h k = k
   outcome_over at b new (rivalled x q) r h k = k

@@ -1,13 +1,9 @@
 -- The pairs by number are the pairs in order: both lists ascend and have the same members.
-use mathlib.Core.Path.{◌≡◌, refl}
-use mathlib.Core.Logic.{by_cases}
-use mathlib.Core.Bool.{true, false}
-use mathlib.Core.List.{[], ◌∷◌, Memᴰ}
-use Prim.Native.Nat.{ℕ, suc, ◌+◌, ◌*◌, ◌-◌, ◌/◌, ◌%◌, ◌≤◌, ◌<◌}
-use native.Mathlib.Omega.{arith}
-use native.Mathlib.Decide.{dec_lt}
-use lib.Dec.{ltb}
-use borrow.Author.Tests.{lt-ltb, le-ltb, ltb-true}
+use Rattle.std.proofs.Common.{◌≡◌, refl, true, false, [], ◌∷◌, ℕ, suc, ◌+◌, ◌*◌, ◌-◌, ◌/◌}
+use Rattle.std.proofs.Common.{◌%◌, ◌≤◌, ◌<◌, arith, ltb, lt-ltb, le-ltb, ltb-true}
+use Rattle.std.proofs.Math.Logic.{by_cases}
+use mathlib.Core.List.{Memᴰ}
+use Rattle.std.proofs.Math.Decide.{dec_lt}
 use Rattle.lists.specs.Lists.{filter_by, up_from}
 use Rattle.lists.specs.Order.{Ascending}
 use Rattle.lists.proofs.ListLaws.{filter_in, filter_out, map_in, map_out, up_in, up_out}

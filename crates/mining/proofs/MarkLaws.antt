@@ -1,13 +1,8 @@
 -- Marks set pair by pair: before number k they are those of the pairs that pass, from k on the old ones.
-use mathlib.Core.Path.{◌≡◌, refl, sym, ap, ◌∙◌}
-use mathlib.Core.Logic.{by_cases}
-use mathlib.Core.Bool.{Bool, true, false, ◌&&◌, ◌||◌}
-use mathlib.Core.List.{[], ◌∷◌, ◌++◌}
-use Prim.Native.Nat.{ℕ, ◌+◌, ◌*◌, ◌/◌, ◌%◌, ◌≤◌}
-use native.Mathlib.Omega.{arith}
-use native.Mathlib.Decide.{ℕ_discrete}
-use lib.Dec.{ltb}
-use borrow.Author.Tests.{lt-ltb, le-ltb, ltb-true, ltb-false}
+use Rattle.std.proofs.Common.{◌≡◌, refl, sym, ap, ◌∙◌, Bool, true, false, ◌&&◌, ◌||◌, [], ◌∷◌, ◌++◌, ℕ}
+use Rattle.std.proofs.Common.{◌+◌, ◌*◌, ◌/◌, ◌%◌, ◌≤◌, arith, ltb, lt-ltb, le-ltb, ltb-true, ltb-false}
+use Rattle.std.proofs.Math.Logic.{by_cases}
+use Rattle.std.proofs.Math.Decide.{ℕ_discrete}
 use Rattle.lists.specs.Lists.{any_of}
 use Rattle.lists.proofs.Cases.{by_test, both, or_true, or_false}
 use Rattle.lists.proofs.ListLaws.{any_append, any_one}
@@ -15,17 +10,16 @@ use Rattle.masks.specs.promises.Mask.{test_bit, with_bit}
 use Rattle.masks.specs.promises.Table.{mask_in}
 use Rattle.masks.specs.declared.Row.{Row}
 use Rattle.masks.proofs.BitLaws.{test_with_same, test_with_other}
-use Rattle.rebac.specs.Matter.{Matter, Pair, pair}
+use Rattle.rebac.specs.Matter.{Pair, pair}
 use Rattle.rebac.specs.Words.{Word}
 use Rattle.rebac.specs.Rules.{RuleList, Term, meets, permits}
 use Rattle.rebac.specs.Mining.{term_of}
 use Rattle.rebac.specs.Existence.{plain_term}
 use Rattle.rebac.proofs.MiningLaws.{term_owned}
-use Rattle.graph.specs.declared.Archive.{Archive}
-use Rattle.graph.specs.promises.Archive.{Shows}
+use Rattle.graph.specs.declared.archive.Archive.{Archive}
 use Rattle.graph.specs.Legal.{is_pair}
-use Rattle.rules.specs.promises.Meets.{meets_term}
 use Rattle.graph.proofs.LegalLaws.{pair_of}
+use Rattle.rules.specs.promises.Meets.{meets_term}
 use Rattle.mining.specs.promises.Building.{problem_in}
 use Rattle.mining.specs.promises.Taking.{PairMarks}
 use Rattle.mining.proofs.ArchiveLaws.{owned_met}
@@ -45,12 +39,6 @@ or_and false c d = refl
 
 none_yet : (b c d : Bool) → c ≡ false → (b || (c && d)) ≡ b
 none_yet b c d e = rw e (or_false b)
-
-pub mark_start : {f : ℕ → ℕ → Bool} {n : ℕ} {old : Row} → n ≤ 32 → MarkedTo f n old old 0
-mark_start {f} {n} {old} bounded = record {
-  bounded = bounded;
-  bits = λ x y. sym (none_yet (bit old x y) (ltb (32 * x + y) 0) (is_pair n x y && f x y) (le-ltb (32 * x + y) 0 (omega arith)));
-}
 
 module _ {f : ℕ → ℕ → Bool} {n : ℕ} {old row : Row} {k : ℕ} (m : MarkedTo f n old row k) where
   pub mark_end : 32 * n ≤ k → (x y : ℕ) → bit row x y ≡ (bit old x y || (is_pair n x y && f x y))
@@ -136,20 +124,20 @@ module _ {f : ℕ → ℕ → Bool} {n : ℕ} {old row : Row} {k : ℕ} (m : Mar
     }
 
 -- the marks of a list with one term more
-module _ {M : Matter} {a : Archive} (s : Shows M a) (p : Pair) where
+module _ (a : Archive) (p : Pair) where
   abbrev term : Term Word
   term = term_of (problem_in a) p
 
   pub marks_more : (r : RuleList Word) (old row : Row) → PairMarks a r old
       → ((x y : ℕ) → bit row x y
-      ≡ (bit old x y || (is_pair a.parties x y && meets_term a.parties a.graph x y (plain_term term))))
+      ≡ (bit old x y || (is_pair a.graph.parties x y && meets_term a.graph.parties a.graph.table x y (plain_term term))))
       → PairMarks a (r ++ (term ∷ [])) row
   unfolding permits meets_term
   marks_more r old row h k u v =
-      let i = is_pair a.parties u v in
-      let m = meets_term a.parties a.graph u v (plain_term term) in
+      let i = is_pair a.graph.parties u v in
+      let m = meets_term a.graph.parties a.graph.table u v (plain_term term) in
       let meet = meets (problem_in a) (pair u v) in
-      let o = owned_met s p (pair u v) term (term_owned (problem_in a) p) in
+      let o = owned_met a p (pair u v) term (term_owned (problem_in a) p) in
       k u v
       ∙ ap (λ (b : Bool). b || (i && m)) (h u v)
       ∙ or_and i (permits (problem_in a) r (pair u v)) m

@@ -1,9 +1,5 @@
 -- A term's bytes with one word more: the word after them, and the count written anew.
-use mathlib.Core.Path.{◌≡◌, sym, ap, ◌∙◌}
-use mathlib.Core.List.{List, [], ◌∷◌, ◌++◌, append_assoc}
-use Prim.Native.Nat.{ℕ, ◌+◌, ◌≤◌}
-use native.Mathlib.Omega.{arith}
-use lib.ListN.{length, length-append}
+use Rattle.std.proofs.Common.{◌≡◌, sym, ap, ◌∙◌, List, [], ◌∷◌, ◌++◌, append_assoc, ℕ, ◌+◌, ◌≤◌, arith, length, length-append}
 use Rattle.lists.specs.Lists.{flat_map}
 use Rattle.fields.specs.Numbers.{u16_bytes}
 use Rattle.rule_bytes.specs.ListBytes.{encode_word, encode_term}

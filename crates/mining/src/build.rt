@@ -1,21 +1,21 @@
 // A pair's term, built in a lent slice.
-ghost use Rattle.std.specs.Prelude.{◌≡◌, not, ◌&&◌, ◌≤◌, ◌<◌, length};
+ghost use Rattle.std.specs.Prelude.{◌≡◌, ◌<◌, length};
 ghost use Rattle.limits.specs.Limits.{most_parties};
 ghost use Rattle.masks.specs.promises.Mask.{test_bit};
 ghost use Rattle.masks.specs.promises.Table.{mask_in};
 ghost use Rattle.rebac.specs.Verdict.{judge};
-ghost use Rattle.graph.specs.Legal.{is_pair};
 ghost use Rattle.mining.specs.promises.Pairs.{pair_at};
 ghost use Rattle.mining.specs.promises.Building.{problem_in, OutcomeAs, TermRoom, TermBegun};
 ghost use Rattle.mining.specs.Values.{pair_value, pair_in};
 
 use crate::kept::Kept;
-use crate::lacked::first_word;
+use crate::pairs::{ArchivePair, TwoPairs};
 use crate::term::add_word;
 use graph::Archive;
 use limits::MOST_PARTIES;
 use masks::Row;
-use search::{Graph, PairIn, ShortWord};
+use rule_bytes::Words;
+use search::ShortWord;
 
 #[derive(Clone, Copy, Debug, PartialEq, Eq)]
 pub struct Pair {
@@ -50,64 +50,46 @@ pub enum Obstacle {
     Rival(Pair),
 }
 
-// Whether two numbers are a pair that the table doesn't permit.
-fn unpermitted(n: usize, permits: &Row, q: Pair) -> bool
-    requires { n ≤ most_parties }
-    ensures { result ≡ (is_pair n q.first q.second && not (test_bit (mask_in permits.now q.first) q.second)) }
-{
-    graph::is_pair(n, q.first, q.second) && !q.is_in(permits)
-}
-
 // From the term of the pair's first word to its whole term, against each unpermitted pair in order; at a missing word to the next pair.
-// A pair that cannot walk each word so far is passed before anything is searched; `walked` are those that can walk the first word.
+// A pair that cannot walk each word so far is passed before anything is searched.
 fn extend_term(
-    a: Archive,
-    p: Pair,
+    own: ArchivePair,
+    first: ShortWord,
     out: &mut [u8],
     at: usize,
-    from: usize,
-    walked: Row,
 ) -> Result<usize, Obstacle>
-    requires { TermBegun a (pair_in p) at from walked out.old }
-    ensures { OutcomeAs a (pair_in p) at out.old out.new
-        (judge (problem_in a) (pair_in p)) result }
+    requires { TermBegun own.archive.now (pair_in own.pair) first at out.old }
+    ensures { OutcomeAs own.entry.archive.now (pair_in own.entry.pair) at out.old out.new
+        (judge (problem_in own.entry.archive.now) (pair_in own.entry.pair)) result }
 {
+    let a = own.archive;
     let mut number: usize = 1;
-    let mut end = from;
-    let mut alive = walked;
+    let mut end = at + 3 + first.word.len;
+    let mut alive = a.graph.walk_pairs(first);
     let mut kept = Kept::new();
-    let count = MOST_PARTIES * a.parties;
-    let graph = Graph {
-        parties: a.parties,
-        table: a.graph,
-    };
+    let count = MOST_PARTIES * a.graph.parties;
     // Kept: nested loops with a label are 01's form.
     'pairs: for k in 0..count {
         let q = Pair::at(k);
         if !q.is_in(&alive) {
             continue 'pairs;
         }
-        if !unpermitted(a.parties, &a.permits, q) {
+        if q.is_in(&a.permits) {
             continue 'pairs;
         }
-        let other = PairIn {
-            graph,
-            first: q.first,
-            second: q.second,
+        let Ok(other) = a.pair(q.first, q.second) else {
+            continue 'pairs;
         };
-        let mut place = at + 2;
-        for _ in 0..number {
-            let r = rule_bytes::read_word(out, place);
-            let word = ShortWord { word: r.word };
+        for word in Words::of_term(out, at) {
             if !word_test::has_word(&other, word) {
                 continue 'pairs;
             }
-            place = r.next;
         }
-        let Some(w) = kept.first_lacked(a, p, q) else {
+        let pairs = TwoPairs { own, other: q };
+        let Some(w) = kept.first_lacked(&pairs) else {
             return Err(Obstacle::Rival(q));
         };
-        alive = masks::common(alive, graph.walk_pairs(w));
+        alive = alive.common(a.graph.walk_pairs(w));
         add_word(out, at, end, number, w.word);
         end = end + 1 + w.word.len;
         number += 1;
@@ -116,20 +98,19 @@ fn extend_term(
 }
 
 // The pair's term from place `at` on, and where it ends: its first word, then a word against each pair that still meets the term.
-pub fn build_term(a: Archive, p: Pair, out: &mut [u8], at: usize) -> Result<usize, Obstacle>
-    requires { TermRoom a (pair_in p) at (length out.old) }
-    ensures { OutcomeAs a (pair_in p) at out.old out.new
-        (judge (problem_in a) (pair_in p)) result }
+pub fn build_term(a: &Archive, p: Pair, out: &mut [u8], at: usize) -> Result<usize, Obstacle>
+    requires { TermRoom a.now (pair_in p) at (length out.old) }
+    ensures { OutcomeAs a.now (pair_in p) at out.old out.new
+        (judge (problem_in a.now) (pair_in p)) result }
 {
-    let Some(w) = first_word(a, p) else {
+    let own = ArchivePair {
+        archive: a,
+        pair: p,
+    };
+    let Some(first) = own.first_word() else {
         return Err(Obstacle::NoWord);
     };
     fields::put_u16(out, at, 0);
-    add_word(out, at, at + 2, 0, w.word);
-    let graph = Graph {
-        parties: a.parties,
-        table: a.graph,
-    };
-    let walked = graph.walk_pairs(w);
-    extend_term(a, p, out, at, at + 3 + w.word.len, walked)
+    add_word(out, at, at + 2, 0, first.word);
+    extend_term(own, first, out, at)
 }

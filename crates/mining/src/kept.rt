@@ -4,15 +4,14 @@ ghost use Rattle.rebac.specs.Matter.{Pair as Parties};
 ghost use Rattle.rebac.specs.Words.{Word as Symbols};
 ghost use Rattle.graph.specs.declared.Archive.{Archive as Shown};
 ghost use Rattle.search.specs.Word.{symbols_in};
-ghost use Rattle.mining.specs.promises.Building.{TwoPairs};
-ghost use Rattle.mining.specs.promises.Kept.{KeptAs, SomeKept, KeepQuery, NextKept, AmongQuery, AmongKept, OnwardQuery, LackedAs};
+ghost use Rattle.mining.specs.promises.Kept.{KeptAs, SomeKept, KeepQuery, NextKept, AmongKept, OnwardQuery, LackedAs};
 ghost use Rattle.mining.specs.Values.{pair_in};
 
-use crate::build::Pair;
 use crate::lacked::lacked_after;
+use crate::pairs::TwoPairs;
 use crate::term::add_word;
-use graph::Archive;
-use search::{Graph, PairIn, ShortWord};
+use rule_bytes::Words;
+use search::ShortWord;
 use words::next_word;
 
 // So many words are kept at most: few enough to be written down fast, and most pairs lack one of them.
@@ -22,6 +21,7 @@ const MOST_KEPT: usize = 64;
 const KEPT_SIZE: usize = 2050;
 
 // The words kept, as a term from place 0 of the list on: how many they are, and where they end.
+// Kept: their number and end beside an array, since there is no heap and they are written as a term is in a slice.
 #[derive(Drop)]
 pub struct Kept {
     list: [u8; KEPT_SIZE],
@@ -52,71 +52,49 @@ impl Kept {
         self.number += 1;
     }
 
-    // The first of the kept words that q lacks; where it has all of them, no such word but the last one, or the empty word.
-    fn lacked_among(&self, a: Archive, q: Pair) -> Result<ShortWord, ShortWord>
-        requires { AmongQuery a (pair_in q) self.now }
-        ensures { (p : Parties) (words : List Symbols) → KeptAs a p words self.now
-            → AmongKept a p (pair_in q) words result }
+    // The first of the kept words that the other pair lacks; where it has all of them, no such word but the last one, or the empty word.
+    fn lacked_among(&self, t: &TwoPairs) -> Result<ShortWord, ShortWord>
+        requires { SomeKept t.now.own.archive.now (pair_in t.now.own.pair) self.now }
+        ensures { (words : List Symbols) → KeptAs t.now.own.archive.now (pair_in t.now.own.pair) words self.now
+            → AmongKept t.now words result }
     {
-        let other = PairIn {
-            graph: Graph {
-                parties: a.parties,
-                table: a.graph,
-            },
-            first: q.first,
-            second: q.second,
-        };
+        let other = t.other();
         let mut w = ShortWord::zeros(0);
-        let mut place = 2;
-        for _ in 0..self.number {
-            let r = rule_bytes::read_word(&self.list, place);
-            w = ShortWord { word: r.word };
-            if !word_test::has_word(&other, w) {
-                return Ok(w);
+        for word in Words::of_term(&self.list, 0) {
+            if !word_test::has_word(&other, word) {
+                return Ok(word);
             }
-            place = r.next;
+            w = word;
         }
         Err(w)
     }
 
-    // On from the last kept word, which q has as all before it: each new word is kept while there is room.
-    fn lacked_onward(&mut self, a: Archive, p: Pair, q: Pair, last: ShortWord) -> Option<ShortWord>
-        requires { OnwardQuery a (pair_in p) (pair_in q) self.old last.word }
-        ensures { LackedAs a (pair_in p) (pair_in q) result self.new }
+    // On from the last kept word, which the other pair has as all before it: each new word is kept while there is room.
+    fn lacked_onward(&mut self, t: &TwoPairs, last: ShortWord) -> Option<ShortWord>
+        requires { OnwardQuery t.now self.old last.word }
+        ensures { LackedAs t.now result self.new }
     {
-        let graph = Graph {
-            parties: a.parties,
-            table: a.graph,
-        };
-        let own = PairIn {
-            graph,
-            first: p.first,
-            second: p.second,
-        };
-        let other = PairIn {
-            graph,
-            first: q.first,
-            second: q.second,
-        };
+        let own = t.own.in_graph();
+        let other = t.other();
         let mut w = last;
         for _ in self.number..MOST_KEPT {
-            w = next_word(&own, a.longest, w)?;
+            w = next_word(&own, t.own.archive.words.longest, w)?;
             self.keep(w);
             if !word_test::has_word(&other, w) {
                 return Some(w);
             }
         }
-        lacked_after(a, p, q, w)
+        lacked_after(t, w)
     }
 
-    // The words of p in order, up to the first that q lacks: first those kept.
-    pub fn first_lacked(&mut self, a: Archive, p: Pair, q: Pair) -> Option<ShortWord>
-        requires { TwoPairs a (pair_in p) (pair_in q) × SomeKept a (pair_in p) self.old }
-        ensures { LackedAs a (pair_in p) (pair_in q) result self.new }
+    // The own pair's words in order, up to the first that the other lacks: first those kept.
+    pub fn first_lacked(&mut self, t: &TwoPairs) -> Option<ShortWord>
+        requires { SomeKept t.now.own.archive.now (pair_in t.now.own.pair) self.old }
+        ensures { LackedAs t.now result self.new }
     {
-        match self.lacked_among(a, q) {
+        match self.lacked_among(t) {
             Ok(w) => Some(w),
-            Err(last) => self.lacked_onward(a, p, q, last),
+            Err(last) => self.lacked_onward(t, last),
         }
     }
 }

@@ -4,6 +4,7 @@
 mod build;
 mod kept;
 mod lacked;
+mod pairs;
 mod take;
 mod term;
 

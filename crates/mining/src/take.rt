@@ -17,7 +17,8 @@ use crate::build::{Obstacle, Pair, build_term};
 use graph::Archive;
 use limits::MOST_PARTIES;
 use masks::Row;
-use search::{Graph, PairIn, ShortWord};
+use rule_bytes::Words;
+use search::Graph;
 
 // A pair's term: where it ends, and the pairs that the list with it permits.
 #[derive(Clone, Copy)]
@@ -27,84 +28,68 @@ pub struct Taken {
 }
 
 // The pairs that can walk each word of the term at a place. The others do not meet it.
-fn term_pairs(a: Archive, list: &[u8], at: usize) -> Row
-    requires { (a.parties ≤ most_parties) × SomeTerm list.now at }
-    ensures { (t : List (List ℕ)) (s : List ℕ) → TermAt list.now at t s → CoversTerm a t result }
+// Kept: list and place stand apart, as at `rules::meets_term`.
+fn term_pairs(a: &Archive, list: &[u8], at: usize) -> Row
+    requires { SomeTerm list.now at }
+    ensures { (t : List (List ℕ)) (s : List ℕ) → TermAt list.now at t s → CoversTerm a.now t result }
 {
-    let graph = Graph {
-        parties: a.parties,
-        table: a.graph,
-    };
-    let mut row = masks::full_row();
-    let number = fields::u16_at(list, at);
-    let mut place = at + 2;
-    for _ in 0..number {
-        let r = rule_bytes::read_word(list, place);
-        let word = ShortWord { word: r.word };
-        row = masks::common(row, graph.walk_pairs(word));
-        place = r.next;
+    let mut row = Row::full();
+    for word in Words::of_term(list, at) {
+        row = row.common(a.graph.walk_pairs(word));
     }
     row
 }
 
 // The marks with those of the pairs that meet the term at a place.
-fn mark_term(a: Archive, marks: Row, list: &[u8], at: usize) -> Row
-    requires { (a.parties ≤ most_parties) × SomeTerm list.now at }
+// Kept: list and place stand apart, as at `rules::meets_term`.
+fn mark_term(a: &Archive, marks: Row, list: &[u8], at: usize) -> Row
+    requires { SomeTerm list.now at }
     ensures { (t : List (List ℕ)) (s : List ℕ) → TermAt list.now at t s → (u v : ℕ)
         → test_bit (mask_in result u) v
-        ≡ (test_bit (mask_in marks u) v || (is_pair a.parties u v && meets_term a.parties a.graph u v t)) }
+        ≡ (test_bit (mask_in marks u) v || (is_pair a.now.graph.parties u v && meets_term a.now.graph.parties a.now.graph.table u v t)) }
 {
     let alive = term_pairs(a, list, at);
     let mut row = marks;
-    let count = MOST_PARTIES * a.parties;
+    let count = MOST_PARTIES * a.graph.parties;
     for k in 0..count {
         let q = Pair::at(k);
         if !q.is_in(&alive) {
             continue;
         }
-        if !graph::is_pair(a.parties, q.first, q.second) {
-            continue;
-        }
         if q.is_in(&row) {
             continue;
         }
-        let pair = PairIn {
-            graph: Graph {
-                parties: a.parties,
-                table: a.graph,
-            },
-            first: q.first,
-            second: q.second,
-        };
-        let r = rules::meets_term(&pair, list, at);
-        if !r.met {
+        let Ok(pair) = a.pair(q.first, q.second) else {
             continue;
+        };
+        if rules::meets_term(&pair, list, at).met {
+            row = row.add(q.first, q.second as u32);
         }
-        row = masks::add(row, q.first, q.second as u32);
     }
     row
 }
 
 // Whether the pair of number k is permitted, and no term so far permits it.
-pub fn is_due(n: usize, permits: &Row, marks: &Row, k: usize) -> bool
-    requires { (k < most_parties * n) × (n ≤ most_parties) }
-    ensures { result ≡ due_by n permits.now marks.now k }
+#[tactic(auto, unfolding(crate::specs::promises::Taking::due_by))]
+pub fn is_due(g: &Graph, permits: &Row, marks: &Row, k: usize) -> bool
+    requires { k < most_parties * g.now.parties }
+    ensures { result ≡ due_by g.now.parties permits.now marks.now k }
 {
     let q = Pair::at(k);
-    graph::is_pair(n, q.first, q.second) && q.is_in(permits) && !q.is_in(marks)
+    graph::is_pair(g.parties, q.first, q.second) && q.is_in(permits) && !q.is_in(marks)
 }
 
 // The due pair of number k: its term from place `at` on, or what is in the way.
 pub fn take_due(
-    a: Archive,
+    a: &Archive,
     marks: Row,
     k: usize,
     out: &mut [u8],
     at: usize,
 ) -> Result<Taken, Obstacle>
-    requires { DueQuery a marks k at (length out.old) }
-    ensures { (l : RuleList Symbols) → PairMarks a l marks
-        → TurnAs a l k at out.old out.new (judge (problem_in a) (pair_at k)) result }
+    requires { DueQuery a.now marks k at (length out.old) }
+    ensures { (l : RuleList Symbols) → PairMarks a.now l marks
+        → TurnAs a.now l k at out.old out.new (judge (problem_in a.now) (pair_at k)) result }
 {
     let end = build_term(a, Pair::at(k), out, at)?;
     Ok(Taken {

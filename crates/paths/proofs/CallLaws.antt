@@ -1,24 +1,18 @@
 -- What the calls answer, by the outcome of their tests; a path's parties as bytes, and their number as the ones of a mask. Assumes nothing.
-use mathlib.Core.Path.{◌≡◌, refl, sym, ap, ◌∙◌}
-use mathlib.Core.Bool.{Bool, true, false, ◌&&◌}
-use mathlib.Core.List.{List, [], ◌∷◌, ◌++◌, Memᴰ}
-use mathlib.Core.Option.{Option as Searched, none, some}
-use Prim.Native.Nat.{ℕ, zero, suc, ◌+◌, ◌/◌, ◌≤◌, ◌<◌}
-use native.Mathlib.Omega.{arith}
+use Rattle.std.proofs.Common.{◌≡◌, refl, sym, ap, ◌∙◌, Bool, true, false, ◌&&◌, List, [], ◌∷◌, ℕ, zero, suc, ◌+◌}
+use Rattle.std.proofs.Common.{◌/◌, ◌≤◌, ◌<◌, arith, ltb, leb, length, take, set, get_or, length-set, ext_get_or, length-take-le}
+use Rattle.std.proofs.Common.{get_or-take, ltb-true, leb-true, eq-eqb, ne_eqb, le-leb, Option, Ok}
+use Rattle.std.proofs.lemmas.Bool.{lt-leb}
+use mathlib.Core.List.{Memᴰ}
+use Rattle.std.proofs.Math.Option.{Option as Searched, none, some}
 use lib.Count.{ones}
-use lib.Dec.{ltb, leb}
-use lib.ListN.{length, take, drop, set, get_or, length-set}
-use lib.Seq.{ext_get_or, length-take-le, get_or-take, take-length}
-use borrow.Author.Tests.{ltb-true, leb-true, eq-eqb, ne_eqb, le-leb, lt-leb}
-use Rattle.std.specs.Prelude.{Option, Some, None, Result, Ok, Err, ok_or}
-use Rattle.std.specs.List.{list_all}
 use Rattle.lists.specs.Lists.{all_of}
 use Rattle.lists.specs.Order.{Distinct}
-use Rattle.lists.proofs.Cases.{clash, and_left, and_right, and_false}
+use Rattle.lists.proofs.Cases.{and_left, and_right, and_false}
 use Rattle.masks.specs.promises.Mask.{test_bit, with_bit}
 use Rattle.masks.proofs.BitLaws.{test_ones, test_with_other}
 use Rattle.masks.proofs.MaskLaws.{zero_bit}
-use Rattle.rebac.specs.Matter.{Matter, Pair, pair, IsPair}
+use Rattle.rebac.specs.Matter.{Matter, Pair, pair}
 use Rattle.rebac.specs.Paths.{Graph, least_path}
 use Rattle.rebac.specs.Symbols.{alphabet, enlarged}
 use Rattle.rebac.specs.promises.Marked.{prepend}
@@ -28,42 +22,37 @@ use Rattle.rebac.specs.NextWord.{next_word}
 use Rattle.rebac.proofs.Reach.{least_is_walk}
 use Rattle.rebac.proofs.SearchLaws.{least_size}
 use Rattle.rebac.proofs.SymbolsLaws.{holds_listed, alphabet_ascending, alphabet_below}
-use Rattle.house_layout.specs.declared.reply.Refusal.{Refusal}
+use Rattle.house_layout.proofs.Exits.{left_with}
 use Rattle.house_layout.specs.declared.reply.Refusal.TheVariants.{PartyPair, GivenWord, Output}
 use Rattle.graph.specs.FileMatter.{Limits}
-use Rattle.graph.specs.promises.Archive.{Shows}
+use Rattle.graph.specs.promises.Archive.{Shows, PairGiven}
 use Rattle.graph.specs.Legal.{is_pair, legal_symbol}
-use Rattle.graph.specs.declared.Archive.{Archive}
-use Rattle.graph.proofs.LegalLaws.{pair_of}
+use Rattle.graph.specs.declared.archive.Archive.{Archive}
+use Rattle.graph.proofs.ShownLaws.{shown_by}
 use Rattle.search.specs.Word.{symbols_in}
 use Rattle.search.specs.promises.WordValues.{Short}
-use Rattle.search.specs.promises.Search.{visit_all, form_of, mask_graph, PathAs}
+use Rattle.search.specs.promises.Search.{visit_all, form_of, mask_graph, PathAs, FoundAs}
 use Rattle.paths.specs.Calls.{refuses, found, legal_given_word, GivenAs, path_in, next_in}
 use Rattle.search.specs.declared.word.ShortWord.{ShortWord}
 use Rattle.search.specs.declared.word.Word.{Word}
+use Rattle.search.specs.declared.pair.PairIn.{PairIn}
 use Rattle.search.specs.declared.path.Path.{Path}
 use Rattle.search.proofs.SearchLaws.{symbols_length}
-use Rattle.search.specs.promises.PairSearch.{table_graph, search_pair}
-use Rattle.words.specs.promises.Next.{Alphabet, WordAs}
+use Rattle.search.specs.promises.PairSearch.{table_graph, search_pair, search_form}
+use Rattle.words.specs.promises.Next.{Alphabet, WordAs, WordBy}
 use Rattle.search.proofs.PairSearchLaws.{search_path, least_fixed, all_fixed}
 
 -- an archive's graph is the matter's enlarged graph
 module _ (M : Matter) (a : Archive) (h : Shows M a) where
-  pub shown_graph : table_graph a.parties a.graph ≡ enlarged M
-  shown_graph = graph_equal (table_graph a.parties a.graph) (enlarged M) h.parties h.graph
+  pub shown_graph : table_graph a.graph.parties a.graph.table ≡ enlarged M
+  shown_graph = graph_equal (table_graph a.graph.parties a.graph.table) (enlarged M) h.parties h.graph
 
-  pub shown_alphabet : Alphabet (alphabet M.language M.labels) a.parties a.graph
+  pub shown_alphabet : Alphabet (alphabet M.language M.labels) a.graph.parties a.graph.table
   shown_alphabet = record {
     listed = λ u v s e. holds_listed M u v s (sym (h.graph u v s) ∙ e);
     ascending = alphabet_ascending M.language M.labels;
     below = λ s m. omega (arith, alphabet_below M.language M.labels m, h.limits.labels.1);
   }
-
--- every element passes, in the words of std
-pub all_is : {A : Type 0} (p : A → Bool) (l : List A) → list_all p l ≡ all_of p l
-unfolding all_of
-all_is p [] = refl
-all_is p (x ∷ l) = ap (λ q. p x && q) (all_is p l)
 
 -- the ones of a mask in which these parties were visited one after another
 visit_ones :
@@ -119,46 +108,26 @@ legal_short M h w n e =
           omega (arith, h.labels.1);
     }
 
--- what the tests of a call say of the matter that the archive stands for
-module _ (M : Matter) (s : Archive) (h : Shows M s) where
-  pub shown_pair : (a b : ℕ) → is_pair s.parties a b ≡ is_pair M.parties a b
-  shown_pair a b = ap (λ (n : ℕ). is_pair n a b) h.parties
+-- what the archive's test of a pair says of the matter
+pub pair_is : (M : Matter) (s : Archive) → Shows M s → (a b : ℕ) {v : Bool} → is_pair s.graph.parties a b ≡ v → is_pair M.parties a b ≡ v
+pair_is M s h a b e = rw h.parties at e
 
-  pub shown_legal : (w : Word)
-      → (leb w.len s.longest && all_of (legal_symbol s.labels s.language) (symbols_in w)) ≡ legal_given_word M w
-  unfolding legal_given_word
-  shown_legal w = rw (h.longest, h.labels, h.language)
-
--- the two tests as the code computes them, of any matter that the archive stands for
-pub pair_is : (M : Matter) (s : Archive) → Shows M s → (a b : ℕ) {r v : Bool} → r ≡ is_pair s.parties a b → r ≡ v
-    → is_pair M.parties a b ≡ v
-pair_is M s h a b e t = sym (shown_pair M s h a b) ∙ sym e ∙ t
-
-pub pair_in :
-    (M : Matter) (s : Archive) → Shows M s → (a b : ℕ) {r : Bool} → r ≡ is_pair s.parties a b → r ≡ true → IsPair s.parties (pair a b)
-pair_in M s h a b e t = pair_of s.parties a b (sym e ∙ t)
+-- and its two tests of a word together
+shown_legal :
+    (M : Matter) (s : Archive) → Shows M s → (w : Word)
+    → (leb w.len s.words.longest && all_of (legal_symbol s.words.labels s.words.language) (symbols_in w)) ≡ legal_given_word M w
+unfolding legal_given_word
+shown_legal M s h w = rw (h.longest, h.labels, h.language)
 
 pub legal_is :
     (M : Matter) (s : Archive) → Shows M s → (w : Word) {r v : Bool}
-    → r ≡ (leb w.len s.longest && all_of (legal_symbol s.labels s.language) (symbols_in w)) → r ≡ v → legal_given_word M w ≡ v
+    → r ≡ (leb w.len s.words.longest && all_of (legal_symbol s.words.labels s.words.language) (symbols_in w)) → r ≡ v
+    → legal_given_word M w ≡ v
 legal_is M s h w e t = sym (shown_legal M s h w) ∙ sym e ∙ t
-
--- the given word where the call goes on, and the refusal where it does not
-pub given_ok :
-    (M : Matter) (w : Word) (o : Option ShortWord) {v : ShortWord} {r : Result ShortWord Refusal}
-    → GivenAs M w o → r ≡ ok_or o GivenWord → r ≡ Ok v → (legal_given_word M w ≡ true) × (v.word ≡ w)
-given_ok M w None g e q = clash (cc (e, q))
-given_ok M w (Some y) {v} g e q = let z : y ≡ v = cc (e, q) in rw z at g
-
-pub given_err :
-    (M : Matter) (w : Word) (o : Option ShortWord) {x : Refusal} {r : Result ShortWord Refusal}
-    → GivenAs M w o → r ≡ ok_or o GivenWord → r ≡ Err x → (legal_given_word M w ≡ false) × (x ≡ GivenWord)
-given_err M w None {x} g e q = (g, cc (e, q))
-given_err M w (Some y) {x} g e q = clash (cc (e, q))
 
 pub short_given :
     (s : Archive) → ((M : Matter) × Shows M s) → (w : Word) → length w.symbols ≡ 31 → {r : Bool}
-    → r ≡ (leb w.len s.longest && all_of (legal_symbol s.labels s.language) (symbols_in w)) → r ≡ true → Short w
+    → r ≡ (leb w.len s.words.longest && all_of (legal_symbol s.words.labels s.words.language) (symbols_in w)) → r ≡ true → Short w
 short_given s p w n e t = legal_short p.0 p.1.limits w n (legal_is p.0 s p.1 w e t)
 
 -- the path call, by the outcome of its tests
@@ -202,9 +171,12 @@ module _ (M : Matter) (a b : ℕ) (w : Word) (size : ℕ) where
         unfolding path_in
         path_answer h = rw (p, l, ne_eqb w.len 0 z, le-leb (w.len + 1) size h)
 
+-- by these the goals of refusals in the calls are found
+pub ruleset refusal_laws = (left_with, pair_is, path_pair, path_word, path_empty, path_short, next_pair, next_word_bad, next_short)
+
 -- what the search for a word's path gives: the parties after the first
 abbrev via_of : Archive → ℕ → ℕ → Word → Searched (List ℕ)
-via_of s a b w = search_pair s.parties s.graph a b (form_of w.len (symbols_in w))
+via_of s a b w = search_pair s.graph.parties s.graph.table a b (form_of w.len (symbols_in w))
 
 -- what the search for a word's path found
 pub record PathFound (M : Matter) (a b : ℕ) (w : Word) (p : Path) : Type 0 where
@@ -215,54 +187,64 @@ pub record PathFound (M : Matter) (a b : ℕ) (w : Word) (p : Path) : Type 0 whe
   pub bytes : take (length (a ∷ via)) (set p.parties 0 a) ≡ a ∷ via
   pub room : ones p.visited ≤ length (set p.parties 0 a)
 
-module _ (M : Matter) (s : Archive) (h : Shows M s) (a b : ℕ) (w : Word) (v : ShortWord) (same : v.word ≡ w) where
-  short : Short w
-  short = rw same at v.short
-
+module _ (M : Matter) (s : Archive) (h : Shows M s) (a b : ℕ) (w : Word) (short : Short w) where
   words : length (symbols_in w) ≡ w.len
   words = symbols_length w (omega (arith, short.len, short.full))
 
   least_of : prepend a (via_of s a b w) ≡ least_path (enlarged M) (pair a b) (symbols_in w)
   least_of =
-      search_path s.parties s.graph a b (form_of w.len (symbols_in w))
-      ∙ ap (least_path (mask_graph s.parties s.graph) (pair a b)) (all_fixed (symbols_in w) w.len (omega (arith, words)))
-      ∙ least_fixed s.parties s.graph (pair a b) (symbols_in w)
+      search_path s.graph.parties s.graph.table a b (form_of w.len (symbols_in w))
+      ∙ ap (least_path (mask_graph s.graph.parties s.graph.table) (pair a b)) (all_fixed (symbols_in w) w.len (omega (arith, words)))
+      ∙ least_fixed s.graph.parties s.graph.table (pair a b) (symbols_in w)
       ∙ ap (λ (g : Graph ℕ). least_path g (pair a b) (symbols_in w)) (shown_graph M s h)
 
-  via_is : {o : Searched (List ℕ)} → search_pair s.parties s.graph a b (form_of w.len (symbols_in v.word)) ≡ o → via_of s a b w ≡ o
-  via_is e = rw same at e
-
-  pub path_not : search_pair s.parties s.graph a b (form_of w.len (symbols_in v.word)) ≡ none
-      → least_path (enlarged M) (pair a b) (symbols_in w) ≡ none
-  path_not e = sym least_of ∙ ap (prepend a) (via_is e)
-
-  pub path_found : (p : Path)
-      → (l : List ℕ) × ((search_pair s.parties s.graph a b (form_of w.len (symbols_in v.word)) ≡ some l) × PathAs 0 (with_bit 0 a) l p)
-      → PathFound M a b w p
+  pub path_found : (p : Path) → FoundAs 0 (with_bit 0 a) (via_of s a b w) (Ok p) → PathFound M a b w p
   path_found p r =
       let l = r.0 in
-      let o = via_is r.1.0 in
-      let q = r.1.1 in
-      let least : least_path (enlarged M) (pair a b) (symbols_in w) ≡ some (a ∷ l) = sym least_of ∙ ap (prepend a) o in
+      let path_as = r.1.1 in
+      let least : least_path (enlarged M) (pair a b) (symbols_in w) ≡ some (a ∷ l) = sym least_of ∙ ap (prepend a) r.1.0 in
       let path = least_is_walk (enlarged M) (pair a b) (symbols_in w) least in
       let after : l ≡ path.0 = cc path.1 in
       let d : Distinct (a ∷ l) = rw after path.2.simple in
       let size : length (a ∷ l) ≡ w.len + 1 = least_size (enlarged M) (pair a b) (symbols_in w) least ∙ omega (arith, words) in
-      let count : ones p.visited ≡ length (a ∷ l) = ap ones q.visited ∙ path_ones a l d in
+      let count : ones p.visited ≡ length (a ∷ l) = ap ones path_as.visited ∙ path_ones a l d in
       record {
         via = l;
         least = least;
         count = count;
         size = size;
-        bytes = path_bytes a l p.parties q.full (omega (arith, size, short.len)) q.parties;
-        room = omega (arith, count, size, short.len, length-set p.parties 0 a, q.full);
+        bytes = path_bytes a l p.parties path_as.full (omega (arith, size, short.len)) path_as.parties;
+        room = omega (arith, count, size, short.len, length-set p.parties 0 a, path_as.full);
       }
 
--- what a copy of the bytes l leaves
-pub copied :
-    (src l old new : List ℕ) → src ≡ l → new ≡ take (length src) src ++ drop (length src) old
-    → new ≡ l ++ drop (length l) old
-copied src l old new e q = q ∙ rw (e, take-length l)
+-- the same for the pair and the word that a call was given
+module _ (M : Matter) (s : Archive) (h : Shows M s) (a b : ℕ) (q : PairIn) (given : PairGiven s a b (Ok q))
+    (w : Word) (v : ShortWord) (legal : GivenAs M w (Ok v)) where
+  short : Short w
+  short = rw legal.1 at v.short
+
+  via_is : {o : Searched (List ℕ)} → search_form q (record { word = v; fixed = w.len }) ≡ o → via_of s a b w ≡ o
+  via_is e = rw (given.1.0, given.1.1.0, given.1.1.1, legal.1) at e
+
+  pub path_not : search_form q (record { word = v; fixed = w.len }) ≡ none → least_path (enlarged M) (pair a b) (symbols_in w) ≡ none
+  path_not e = sym (least_of M s h a b w short) ∙ ap (prepend a) (via_is e)
+
+  pub path_given : (p : Path)
+      → FoundAs 0 (with_bit 0 q.first) (search_form q (record { word = v; fixed = w.len })) (Ok p) → PathFound M a b w p
+  path_given p r =
+      let path_as : PathAs 0 (with_bit 0 a) r.0 p = rw given.1.1.0 at r.1.1 in
+      path_found M s h a b w short p (r.0, (via_is r.1.0, path_as))
+
+-- a found path has a party more than the word has symbols, and its parties fit their array: of any matter that the archive stands for
+pub path_fits :
+    (s : Archive) (a b : ℕ) (q : PairIn) → PairGiven s a b (Ok q) → (w : Word) (v : ShortWord)
+    → ((M : Matter) → Shows M s → GivenAs M w (Ok v)) → (p : Path)
+    → FoundAs 0 (with_bit 0 q.first) (search_form q (record { word = v; fixed = w.len })) (Ok p)
+    → (ones p.visited ≡ w.len + 1) × (ones p.visited ≤ length (set p.parties 0 a))
+path_fits s a b q given w v legal p r =
+    let S = shown_by s in
+    let f = path_given S.0 s S.1 a b q given w v (legal S.0 S.1) p r in
+    (f.count ∙ f.size, f.room)
 
 pub legal_length : (M : Matter) (w : Word) → legal_given_word M w ≡ true → w.len ≤ M.longest
 unfolding legal_given_word
@@ -270,27 +252,26 @@ legal_length M w e = leb-true w.len M.longest (and_left (leb w.len M.longest) _ 
 
 -- the searches over an archive give the matter's next word
 pub next_shown :
-    (M : Matter) (a : Archive) → Shows M a → (p : Pair) (w : Word) → Short w → w.len ≤ a.longest → (r : Option ShortWord)
-    → ((al : List ℕ) → Alphabet al a.parties a.graph
-    → WordAs (search_next al (table_graph a.parties a.graph) p a.longest (symbols_in w)) r)
+    (M : Matter) (a : Archive) → Shows M a → (p : Pair) (w : Word) → Short w → w.len ≤ a.words.longest → (r : Option ShortWord)
+    → ((al : List ℕ) → Alphabet al a.graph.parties a.graph.table
+    → WordAs (search_next al (table_graph a.graph.parties a.graph.table) p a.words.longest (symbols_in w)) r)
     → WordAs (next_word M p (symbols_in w)) r
 next_shown M a S p w s l r f =
     let z : length (symbols_in w) ≡ w.len = symbols_length w (omega (arith, s.len, s.full)) in
     let h : length (symbols_in w) ≤ M.longest = omega (arith, z, l, S.longest) in
-    let e = next_search_equal M (table_graph a.parties a.graph) S.parties S.graph p (symbols_in w) h in
+    let e = next_search_equal M (table_graph a.graph.parties a.graph.table) S.parties S.graph p (symbols_in w) h in
     let q = f (alphabet M.language M.labels) (shown_alphabet M a S) in
     rw (S.longest, e) at q
 
--- the same of a given word
-module _ (M : Matter) (a : Archive) (S : Shows M a) where
-  pub given_within : (w : Word) (v : ShortWord) → (legal_given_word M w ≡ true) × (v.word ≡ w) → v.word.len ≤ a.longest
-  given_within w v g =
-      let e : v.word.len ≡ w.len = ap (λ (x : Word). x.len) g.1 in
-      omega (arith, e, legal_length M w g.0, S.longest)
+-- the same of a given pair and a given word
+module _ (M : Matter) (s : Archive) (h : Shows M s) (w : Word) (v : ShortWord) (legal : GivenAs M w (Ok v)) where
+  pub given_within : v.word.len ≤ s.words.longest
+  given_within =
+      let e : v.word.len ≡ w.len = ap (λ (x : Word). x.len) legal.1 in
+      omega (arith, e, legal_length M w legal.0, h.longest)
 
   pub given_next :
-      (p : Pair) (w : Word) (v : ShortWord) → (legal_given_word M w ≡ true) × (v.word ≡ w) → (r : Option ShortWord)
-      → ((al : List ℕ) → Alphabet al a.parties a.graph
-      → WordAs (search_next al (table_graph a.parties a.graph) p a.longest (symbols_in v.word)) r)
-      → WordAs (next_word M p (symbols_in w)) r
-  given_next p w v g r f = rw g.1 at (next_shown M a S p v.word v.short (given_within w v g) r f)
+      (a b : ℕ) (q : PairIn) → PairGiven s a b (Ok q) → (r : Option ShortWord)
+      → WordBy q (λ al G p. search_next al G p s.words.longest (symbols_in v.word)) r → WordAs (next_word M (pair a b) (symbols_in w)) r
+  given_next a b q given r f =
+      rw legal.1 at (next_shown M s h (pair a b) v.word v.short given_within r (rw (given.1.0, given.1.1.0, given.1.1.1) at f))

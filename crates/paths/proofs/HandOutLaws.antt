@@ -1,16 +1,10 @@
 -- Called again and again, next-word hands out the words of the pair: each call is the definition's next word after the word given,
 -- and the words left grow fewer.
-use mathlib.Core.Path.{◌≡◌, refl, ap, ◌∙◌}
-use mathlib.Core.Bool.{true}
+use Rattle.std.proofs.Common.{◌≡◌, refl, ap, ◌∙◌, true, List, [], ◌++◌, ℕ, zero, suc, ◌≤◌, ◌<◌, arith}
+use Rattle.std.proofs.Common.{leb, length, drop, length-append, length-drop, le-leb, None, Ok}
 use mathlib.Core.List.Memᴰ
-use mathlib.Core.List.{List, [], ◌++◌}
-use mathlib.Core.Option.{some}
-use Prim.Native.Nat.{ℕ, zero, suc, ◌≤◌, ◌<◌}
-use native.Mathlib.Omega.{arith}
-use lib.Dec.{leb}
-use lib.ListN.{length, drop, length-append, length-drop}
-use lib.Seq.{take-append_seam}
-use borrow.Author.Tests.{le-leb}
+use Rattle.std.proofs.Math.Option.{some}
+use Rattle.std.proofs.Math.Seq.{take-append_seam}
 use Rattle.lists.proofs.Cases.{by_found, and_both}
 use Rattle.lists.proofs.ListLaws.{all_of_lem}
 use Rattle.lists.proofs.Pointwise.{filter_length}
@@ -31,7 +25,6 @@ use Rattle.search.specs.Word.{Carries}
 use Rattle.search.specs.declared.word.Word.{Word}
 use Rattle.paths.specs.Calls.{writes, nothing, found, legal_given_word, next_call}
 use Rattle.paths.specs.HandOut.{HandedOut, hand_out, HandsOut}
-use Rattle.std.specs.Prelude.{None, Ok}
 use Rattle.paths.proofs.CallLaws.{next_answer}
 
 -- a word value of at most D symbols of the language is legal

@@ -1,6 +1,5 @@
 -- A reply of path and next-word is known by its number and values, by its cases. Assumes nothing.
-use mathlib.Core.Path.{◌≡◌, refl, ap}
-use Rattle.std.specs.Prelude.{ℕ, Option, Some, None, Result, Ok, Err}
+use Rattle.std.proofs.Common.{◌≡◌, refl, ap, ℕ, Option, Some, None, Result, Ok, Err}
 use Rattle.lists.proofs.Cases.{clash}
 use Rattle.house_layout.specs.declared.reply.Refusal.{Refusal}
 use Rattle.house_layout.proofs.RefusalNumbers.{refusal_said}

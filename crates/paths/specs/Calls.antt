@@ -1,5 +1,6 @@
 -- The path and next-word calls (01, "The calls"): what each answers and writes, for any bytes, parties, word and output.
-use Rattle.std.specs.Prelude.{ℕ, ◌+◌, ◌≡◌, Bool, true, false, not, ◌&&◌, List, [], ◌∷◌, ◌++◌, length, drop, eqb, leb, Option, Some, None, MatchOption, Result, Ok, Err}
+use Rattle.std.specs.Prelude.{ℕ, ◌+◌, ◌≡◌, Bool, true, false, not, ◌&&◌, List, [], ◌∷◌, ◌++◌}
+use Rattle.std.specs.Prelude.{length, drop, eqb, leb, Option, Some, None, Result, Ok, Err}
 use Rattle.std.proofs.Math.Option.{Option as Searched, none, some}
 use Rattle.lists.specs.Lists.{all_of}
 use Rattle.limits.specs.Limits.{word_capacity}
@@ -48,9 +49,10 @@ found (some l) = writes l
 unfoldable pub legal_given_word : Matter → Word → Bool
 legal_given_word M w = leb w.len M.longest && all_of (legal_symbol M.labels M.language) (symbols_in w)
 
--- the given word as one that a search can take, exactly where it is legal
-abbrev pub GivenAs : Matter → Word → Option ShortWord → Type 0
-GivenAs M w r = MatchOption r (legal_given_word M w ≡ false) (λ v. (legal_given_word M w ≡ true) × (v.word ≡ w))
+-- the given word as one that a search can take, exactly where it is legal; otherwise refusal 11
+abbrev pub GivenAs : Matter → Word → Result ShortWord Refusal → Type 0
+GivenAs M w (Ok v) = (legal_given_word M w ≡ true) × (v.word ≡ w)
+GivenAs M w (Err x) = (legal_given_word M w ≡ false) × (x ≡ GivenWord)
 
 -- Path: 10, 11 (also the empty word), 14 by the word's length, then the path with the lower party at the first difference
 unfoldable pub path_in : Matter → ℕ → ℕ → Word → ℕ → WordAnswer

@@ -1,58 +1,53 @@
 // 01's path and next-word calls: file, pair, word and lent output in, any of them wrong or right.
 ghost use Rattle.std.specs.Prelude.{◌≡◌, ◌&&◌, ◌≤◌, length, leb};
 ghost use Rattle.lists.specs.Lists.{all_of};
-ghost use Rattle.limits.specs.Limits.{last_language, longest_word};
+ghost use Rattle.limits.specs.Limits.{longest_word};
 ghost use Rattle.rebac.specs.Matter.{Matter};
 ghost use Rattle.graph.specs.promises.Archive.{Shows};
 ghost use Rattle.graph.specs.Legal.{legal_symbol};
 ghost use Rattle.search.specs.Word.{symbols_in};
 ghost use Rattle.paths.specs.Calls.{GivenAs, word_reply, word_output, path_in, next_in, path_call, next_call};
 
-use graph::Archive;
+use graph::{Archive, WordRule};
 use house_layout::Refusal;
 use limits::WORD_CAPACITY;
-use search::{Form, Graph, PairIn, ShortWord, Word};
+use search::{Form, ShortWord, Word};
 use words::next_word;
 
 // Whether the word has at most D symbols, each of the language and with a label below L.
-pub fn legal_given_word(labels: usize, language: usize, longest: usize, w: Word) -> bool
-    requires { (language ≤ last_language) × (longest ≤ longest_word) }
-    ensures { result ≡ (leb w.len longest && all_of (legal_symbol labels language) (symbols_in w)) }
+pub fn legal_given_word(rule: WordRule, w: &Word) -> bool
+    requires { rule.longest ≤ longest_word }
+    ensures { result ≡ (leb w.now.len rule.longest && all_of (legal_symbol rule.labels rule.language) (symbols_in w.now)) }
 {
-    w.len <= longest
-        && w.symbols[..w.len]
-            .iter()
-            .all(|&s| graph::legal_symbol(labels, language, s))
+    w.len <= rule.longest && rule.legal_symbols(&w.symbols[..w.len])
 }
 
-// The given word as one that a search can take, exactly where it is legal in the archive.
-pub fn given_word(a: &Archive, w: Word) -> Option<ShortWord>
-    requires { (M : Matter) × Shows M a.now }
+// The given word as one that a search can take, where it is legal in the archive; otherwise refusal 11.
+pub fn given_word(a: &Archive, w: Word) -> Result<ShortWord, Refusal>
     ensures { (M : Matter) → Shows M a.now → GivenAs M w result }
 {
-    if !legal_given_word(a.labels, a.language, a.longest, w) {
-        return None;
+    if !legal_given_word(a.words, &w) {
+        return Err(Refusal::GivenWord);
     }
-    Some(ShortWord { word: w })
+    Ok(ShortWord { word: w })
 }
 
 // The path call for an accepted file. The ones of the visited mask number the path's parties.
+// Kept: first and second are any numbers here; they become a pair of the graph in the first line.
+#[tactic(auto, using(crate::proofs::CallLaws::refusal_laws))]
 fn path_in(
-    a: Archive,
+    a: &Archive,
     first: usize,
     second: usize,
     w: Word,
     out: &mut [u8],
 ) -> Result<Option<usize>, Refusal>
-    requires { (M : Matter) × Shows M a }
-    ensures { (M : Matter) → Shows M a
+    ensures { (M : Matter) → Shows M a.now
         → (result ≡ word_reply (path_in M first second w (length out.old)))
         × (out.new ≡ word_output (path_in M first second w (length out.old)) out.old) }
 {
-    if !graph::is_pair(a.parties, first, second) {
-        return Err(Refusal::PartyPair);
-    }
-    let word = given_word(&a, w).ok_or(Refusal::GivenWord)?;
+    let pair = a.pair(first, second)?;
+    let word = given_word(a, w)?;
     let len = w.len;
     if len == 0 {
         return Err(Refusal::GivenWord);
@@ -60,14 +55,6 @@ fn path_in(
     if out.len() < len + 1 {
         return Err(Refusal::Output);
     }
-    let pair = PairIn {
-        graph: Graph {
-            parties: a.parties,
-            table: a.graph,
-        },
-        first,
-        second,
-    };
     let Ok(path) = pair.search(Form { word, fixed: len }) else {
         return Ok(None);
     };
@@ -79,34 +66,25 @@ fn path_in(
 }
 
 // The next-word call for an accepted file.
+// Kept: first and second are any numbers here; they become a pair of the graph in the first line.
+#[tactic(auto, using(crate::proofs::CallLaws::refusal_laws))]
 fn next_in(
-    a: Archive,
+    a: &Archive,
     first: usize,
     second: usize,
     w: Word,
     out: &mut [u8],
 ) -> Result<Option<usize>, Refusal>
-    requires { (M : Matter) × Shows M a }
-    ensures { (M : Matter) → Shows M a
+    ensures { (M : Matter) → Shows M a.now
         → (result ≡ word_reply (next_in M first second w (length out.old)))
         × (out.new ≡ word_output (next_in M first second w (length out.old)) out.old) }
 {
-    if !graph::is_pair(a.parties, first, second) {
-        return Err(Refusal::PartyPair);
-    }
-    let word = given_word(&a, w).ok_or(Refusal::GivenWord)?;
+    let pair = a.pair(first, second)?;
+    let word = given_word(a, w)?;
     if out.len() < WORD_CAPACITY {
         return Err(Refusal::Output);
     }
-    let pair = PairIn {
-        graph: Graph {
-            parties: a.parties,
-            table: a.graph,
-        },
-        first,
-        second,
-    };
-    let Some(next) = next_word(&pair, a.longest, word) else {
+    let Some(next) = next_word(&pair, a.words.longest, word) else {
         return Ok(None);
     };
     let len = next.word.len;
@@ -117,6 +95,7 @@ fn next_in(
 
 // Writes the parties of the pair's path with the word, and replies how many; none: the pair has no such path. `said_word` gives 01's
 // number and values of each reply; equal ones mean equal replies (`word_said`).
+#[tactic(auto, using(house_layout::proofs::Exits::left_with), unfolding(crate::specs::Calls::path_call))]
 pub fn path_call(
     file: &[u8],
     first: usize,
@@ -128,10 +107,11 @@ pub fn path_call(
         × (out.new ≡ word_output (path_call file.now first second w (length out.old)) out.old) }
 {
     let a = graph::load(file)?;
-    path_in(a, first, second, w, out)
+    path_in(&a, first, second, w, out)
 }
 
 // Writes the pair's first word after the given one, and replies its length; none: no word follows.
+#[tactic(auto, using(house_layout::proofs::Exits::left_with), unfolding(crate::specs::Calls::next_call))]
 pub fn next_call(
     file: &[u8],
     first: usize,
@@ -143,5 +123,5 @@ pub fn next_call(
         × (out.new ≡ word_output (next_call file.now first second w (length out.old)) out.old) }
 {
     let a = graph::load(file)?;
-    next_in(a, first, second, w, out)
+    next_in(&a, first, second, w, out)
 }

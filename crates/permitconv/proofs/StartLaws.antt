@@ -1,7 +1,7 @@
 -- The text of the bytes that were read is that of the input: they are its first bytes, as many as are looked at.
-use Rattle.std.proofs.Common.{◌≡◌, ℕ, ◌≤◌, List, length, take, ap, ◌∙◌, subst, OnOk, IfOk, IfSome, arith}
+use Rattle.std.proofs.Common.{◌≡◌, ℕ, ◌≤◌, List, length, take, ap, ◌∙◌, subst, OnOk, IfOk, IfSome, arith, Option, Result, Some, None, Ok}
+use Rattle.std.proofs.Common.{Err}
 use Rattle.std.proofs.lemmas.Grind.{common_steps}
-use Rattle.std.specs.Prelude.{Option, Result, Some, None, Ok, Err, MatchResult, IsErrAnd}
 use Rattle.std.specs.Io.{ReadsAtMost}
 use Rattle.std.specs.Io.KnownBytes.{Appends, Consumes}
 use Rattle.reading.specs.promises.Filling.{EndsIfShort}
@@ -9,20 +9,13 @@ use Rattle.report.specs.Report.{file_text, report_text}
 use Rattle.report.proofs.ReportLaws.{read_text}
 
 -- bytes that stand before the rest of the input, where fewer than there is room for have no rest
-start : (n : ℕ) (l xs : List ℕ) (left : Option (List ℕ)) → n ≤ length l → Consumes (Some xs) left (take n l) → EndsIfShort left l n
+pub start : (n : ℕ) (l xs : List ℕ) (left : Option (List ℕ)) → n ≤ length l → Consumes (Some xs) left (take n l) → EndsIfShort left l n
     → take n l ≡ take (length l) xs
 start n l xs None inside e ends = absurd e
 start n l xs (Some ys) inside e ends = grind (arith, common_steps)
 
 start_text : (n : ℕ) (l xs : List ℕ) → length l ≡ 44713 → take n l ≡ take (length l) xs → file_text (take n l) ≡ report_text xs
 start_text n l xs long e = ap file_text (e ∙ ap (λ (k : ℕ). take k xs) long) ∙ read_text xs
-
--- what `map_err` leaves at `Ok`
-pub kept : {E D : Type 0} (P : E → D → Type 0) (r : Result ℕ E) (m : Result ℕ D) (n : ℕ)
-    → MatchResult r (λ k. m ≡ Ok k) (λ e. IsErrAnd m (P e)) → m ≡ Ok n → r ≡ Ok n
-kept P (Ok k) m n e h = cc
-kept P (Err x) (Ok k) n e h = absurd e
-kept P (Err x) (Err y) n e h = cc
 
 pub reported : {T E F : Type 0} (r : Result T E) (s : Result ℕ F) (input left old new : Option (List ℕ)) (n : ℕ) (l : List ℕ)
     → length l ≡ 44713 → s ≡ Ok n → ReadsAtMost s l → IfOk s (λ n. Consumes input left (take n l)) → IfOk s (EndsIfShort left l)

@@ -2,7 +2,7 @@
 // What cannot be read or printed is said by a line on standard error. Asked --help or --version, it prints that and reads no file.
 #![tactic(auto)]
 
-ghost use Rattle.std.specs.Prelude.{◌≢◌, IfSome, OnOk, codes};
+ghost use Rattle.std.specs.Prelude.{◌≡◌, ◌≢◌, IfSome, OnOk, codes};
 ghost use Rattle.std.specs.Io.KnownBytes.{Appends};
 ghost use Rattle.report.specs.Report.{file_text, report_text};
 
@@ -55,9 +55,11 @@ fn convert<R: Read, W: Write>(input: &mut R, out: &mut W) -> Result<(), Failure>
 
 // What the program does where this word is its first argument; one that is neither of the two counts as none.
 fn run<R: Read, W: Write>(asked: &[u8], input: &mut R, out: &mut W) -> Result<(), Failure>
-    ensures { OnOk result (asked.now ≢ codes "--help" → asked.now ≢ codes "--version"
+    ensures answer { OnOk result (asked.now ≢ codes "--help" → asked.now ≢ codes "--version"
         → IfSome (R.remaining input.old)
         (λ xs. Appends (W.contents out.old) (W.contents out.new) (report_text xs))) }
+    ensures help { asked.now ≡ codes "--help" → R.remaining input.new ≡ R.remaining input.old }
+    ensures version { asked.now ≡ codes "--version" → R.remaining input.new ≡ R.remaining input.old }
 {
     if asked == b"--help".as_slice() {
         return print(

@@ -1,11 +1,8 @@
 -- Words of two graphs that hold alike at each place are had by the same pairs: by induction on the words. And each symbol of a word
 -- that some pair has holds for some parties.
-use mathlib.Core.Path.{◌≡◌, refl, sym, ap, ◌∙◌}
-use mathlib.Core.Bool.{Bool, true, not, ◌&&◌}
+use Rattle.std.proofs.Common.{◌≡◌, refl, sym, ap, ◌∙◌, Bool, true, not, ◌&&◌, List, [], ◌∷◌, ℕ, suc, ◌<◌, length}
 use mathlib.Core.List.Memᴰ
-use mathlib.Core.List.{List, [], ◌∷◌, Memᴰ}
-use Prim.Native.Nat.{ℕ, suc, ◌<◌}
-use lib.ListN.{length}
+use mathlib.Core.List.{Memᴰ}
 use Rattle.lists.specs.Lists.{any_of, member, range}
 use Rattle.lists.proofs.Cases.{by_mem, and_left}
 use Rattle.lists.proofs.ListLaws.{any_same, range_out}

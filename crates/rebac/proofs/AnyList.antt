@@ -1,13 +1,7 @@
 -- Demand 3 for a list of any words: a term with a word that no pair has permits nobody, so the terms
 -- without such words permit the same pairs, and their words are the matter's.
-use mathlib.Core.Path.{◌≡◌, ◌∙◌}
-use mathlib.Core.Logic.{◌↔◌}
-use mathlib.Core.Bool.{Bool, true, ◌&&◌}
-use mathlib.Core.List.{List, Memᴰ}
-use Prim.Native.Nat.{◌≤◌}
-use lib.Dec.{leb}
-use lib.ListN.{length}
-use borrow.Author.Tests.{le-leb, leb-true}
+use Rattle.std.proofs.Common.{◌≡◌, ◌∙◌, ◌↔◌, Bool, true, ◌&&◌, List, ◌≤◌, leb, length, le-leb, leb-true}
+use mathlib.Core.List.{Memᴰ}
 use Rattle.lists.specs.Lists.{all_of, filter_by}
 use Rattle.lists.proofs.Cases.{and_left, and_right, and_both}
 use Rattle.lists.proofs.ListLaws.{all_in, all_of_lem, filter_out, any_filter}

@@ -1,12 +1,6 @@
 -- Ways back from a party: how many there are, whether there is one, and how far they lead hang together. By induction on the symbols.
-use mathlib.Core.Path.{◌≡◌, refl, sym, ap, ◌∙◌}
-use mathlib.Core.Bool.{Bool, true, false}
-use mathlib.Core.List.{List, [], ◌∷◌}
-use Prim.Native.Nat.{ℕ, zero, suc, ◌≤◌, ◌<◌}
-use native.Mathlib.Omega.{arith}
-use lib.Dec.{leb}
-use lib.ListN.{length, take}
-use borrow.Author.Tests.{leb-false}
+use Rattle.std.proofs.Common.{◌≡◌, refl, sym, ap, ◌∙◌, Bool, true, false, List, [], ◌∷◌, ℕ}
+use Rattle.std.proofs.Common.{zero, suc, ◌≤◌, ◌<◌, arith, leb, length, take, leb-false}
 use Rattle.lists.specs.Lists.{range}
 use Rattle.lists.specs.Order.{only_if}
 use Rattle.lists.proofs.Cases.{by_test, both, and_left, and_right, and_both}

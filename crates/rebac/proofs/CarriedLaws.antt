@@ -1,12 +1,7 @@
 -- A map of parties that is one-to-one on the parties of a graph and carries every edge takes each path of a pair to a path of the pair's
 -- image, and different paths to different ones. So the image has at least as many paths with each word, and every word of the pair.
-use mathlib.Core.Path.{◌≡◌, sym, ap, ◌∙◌}
-use mathlib.Core.Bool.{true}
-use mathlib.Core.List.{List, [], ◌∷◌, map, Memᴰ}
-use Prim.Native.Nat.{ℕ, ◌≤◌, ◌<◌}
-use native.Mathlib.Omega.{arith}
-use lib.ListN.{length}
-use borrow.Author.Tests.{le-leb, leb-true}
+use Rattle.std.proofs.Common.{◌≡◌, sym, ap, ◌∙◌, true, List, [], ◌∷◌, map, ℕ, ◌≤◌, ◌<◌, arith, length, le-leb, leb-true}
+use mathlib.Core.List.{Memᴰ}
 use Rattle.lists.specs.Order.{Distinct}
 use Rattle.lists.proofs.Cases.{by_mem}
 use Rattle.lists.proofs.ListLaws.{map_out}

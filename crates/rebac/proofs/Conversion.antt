@@ -1,16 +1,9 @@
 -- Demand 3 for a matter, in 01's own words: the existence theorem at the matter's pairs, words
 -- and scores, where a score is 1 exactly where the pair has the word.
-use mathlib.Core.Path.{◌≡◌, refl, sym, ◌∙◌}
-use mathlib.Core.Logic.{◌↔◌}
-use mathlib.Core.Bool.{true, false}
+use Rattle.std.proofs.Common.{◌≡◌, refl, sym, ◌∙◌, ◌↔◌, true, false, List, [], ◌∷◌, map, ℕ, suc}
+use Rattle.std.proofs.Common.{◌*◌, ◌-◌, ◌≤◌, arith, mul-le-mul, leb, length, le-leb, leb-true}
 use mathlib.Core.List.Memᴰ
-use mathlib.Core.List.{List, [], ◌∷◌, map, Memᴰ}
-use Prim.Native.Nat.{ℕ, suc, ◌*◌, ◌-◌, ◌≤◌}
-use native.Mathlib.Omega.{arith}
-use native.Mathlib.Nat.{mul-le-mul}
-use lib.Dec.{leb}
-use lib.ListN.{length}
-use borrow.Author.Tests.{le-leb, leb-true}
+use mathlib.Core.List.{Memᴰ}
 use Rattle.lists.specs.Lists.{all_of, any_of}
 use Rattle.lists.specs.Order.{Ascending, Distinct, only_if}
 use Rattle.lists.proofs.Cases.{by_test}

@@ -1,13 +1,7 @@
 -- Theorem 3.10 both ways. From a list: the term that permits p is made of p's words, so a
 -- rival would be permitted too. From the verdict: the mined list.
-use mathlib.Core.Path.{◌≡◌, refl, sym, ◌∙◌}
-use mathlib.Core.Logic.{◌↔◌}
-use mathlib.Core.Bool.{true, false}
-use mathlib.Core.List.{List, [], ◌∷◌, Memᴰ}
-use Prim.Native.Nat.{◌≤◌}
-use native.Mathlib.Omega.{arith}
-use lib.ListN.{length}
-use borrow.Author.Tests.{leb-true, le-leb}
+use Rattle.std.proofs.Common.{◌≡◌, refl, sym, ◌∙◌, ◌↔◌, true, false, List, [], ◌∷◌, ◌≤◌, arith, length, leb-true, le-leb}
+use mathlib.Core.List.{Memᴰ}
 use Rattle.lists.specs.Lists.{any_of}
 use Rattle.lists.proofs.Cases.{by_test, both}
 use Rattle.lists.proofs.ListLaws.{all_in, all_of_lem, any_in, any_out}

@@ -1,9 +1,5 @@
 -- What the searches by form look for, as statements.
-use mathlib.Core.Path.{◌≡◌}
-use mathlib.Core.Bool.{true}
-use mathlib.Core.List.{List, [], ◌∷◌, ◌++◌}
-use Prim.Native.Nat.{ℕ, ◌+◌, ◌≤◌, ◌<◌}
-use lib.ListN.{length}
+use Rattle.std.proofs.Common.{◌≡◌, true, List, [], ◌∷◌, ◌++◌, ℕ, ◌+◌, ◌≤◌, ◌<◌, length}
 use Rattle.rebac.specs.Matter.{Pair}
 use Rattle.rebac.specs.Words.{Word, lex_less, before}
 use Rattle.rebac.specs.Paths.{Graph, has}

@@ -1,13 +1,6 @@
 -- The order of lists of numbers and word order are irreflexive and transitive: by induction on the lists.
-use mathlib.Core.Path.{◌≡◌, refl, sym, ◌∙◌}
-use mathlib.Core.Logic.{◌⊎◌, inl, inr, ⊎_elim}
-use mathlib.Core.Bool.{Bool, true, false, ◌&&◌, ◌||◌}
-use mathlib.Core.List.{List, [], ◌∷◌, map}
-use Prim.Native.Nat.{ℕ, ◌<◌}
-use native.Mathlib.Omega.{arith}
-use lib.Dec.{ltb, eqb}
-use lib.ListN.{length}
-use borrow.Author.Tests.{ltb-true, lt-ltb, le-ltb, eqb-true, eq-eqb}
+use Rattle.std.proofs.Common.{◌≡◌, refl, sym, ◌∙◌, ◌⊎◌, inl, inr, ⊎_elim, Bool, true, false, ◌&&◌, ◌||◌, List, [], ◌∷◌}
+use Rattle.std.proofs.Common.{map, ℕ, ◌<◌, arith, ltb, eqb, length, ltb-true, lt-ltb, le-ltb, eqb-true, eq-eqb}
 use Rattle.lists.specs.Lists.{flat_map}
 use Rattle.lists.specs.Order.{Ascending}
 use Rattle.lists.proofs.Cases.{clash, and_left, and_right, or_true}

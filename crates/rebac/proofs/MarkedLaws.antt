@@ -1,13 +1,8 @@
 -- Marks that say which parties were seen give the search's answer and its least path: by induction on the word.
-use mathlib.Core.Path.{◌≡◌, refl, sym, ap, ◌∙◌}
-use mathlib.Core.Bool.{Bool, false, not, ◌&&◌, ◌||◌}
-use mathlib.Core.List.{List, [], ◌∷◌, ◌++◌, map, Memᴰ}
-use mathlib.Core.Option.{Option, none, some}
-use Prim.Native.Nat.{ℕ, suc, ◌<◌}
-use native.Mathlib.Omega.{arith}
-use lib.Dec.{eqb, leb}
-use lib.ListN.{length}
-use borrow.Author.Tests.{le-leb}
+use Rattle.std.proofs.Common.{◌≡◌, refl, sym, ap, ◌∙◌, Bool, false, not, ◌&&◌, ◌||◌, List, []}
+use Rattle.std.proofs.Common.{◌∷◌, ◌++◌, map, ℕ, suc, ◌<◌, arith, eqb, leb, length, le-leb}
+use mathlib.Core.List.{Memᴰ}
+use Rattle.std.proofs.Math.Option.{Option, none, some}
 use Rattle.lists.specs.Lists.{any_of, filter_by, flat_map, member, range}
 use Rattle.lists.specs.Order.{first_element}
 use Rattle.lists.proofs.ListLaws.{range_out}

@@ -1,13 +1,9 @@
 -- Laws of a matter for its callers: 000's paths in the enlarged graph, the bound on
 -- words, and that answers depend on the graph only edge by edge.
-use mathlib.Core.Path.{◌≡◌, refl, sym, fun_ext}
-use mathlib.Core.Logic.{◌↔◌}
-use mathlib.Core.Bool.{Bool, true, false}
+use Rattle.std.proofs.Common.{◌≡◌, refl, sym, ◌↔◌, Bool, true, false, List, [], ◌∷◌, ℕ, ◌+◌, ◌*◌, ◌≤◌, ◌<◌, arith, length}
+use Rattle.std.proofs.Math.Path.{fun_ext}
 use mathlib.Core.List.Memᴰ
-use mathlib.Core.List.{List, [], ◌∷◌, Memᴰ}
-use Prim.Native.Nat.{ℕ, ◌+◌, ◌*◌, ◌≤◌, ◌<◌}
-use native.Mathlib.Omega.{arith}
-use lib.ListN.{length}
+use mathlib.Core.List.{Memᴰ}
 use Rattle.rebac.specs.Matter.{Matter, Pair, IsPair, pairs_of, permitted}
 use Rattle.rebac.specs.Words.{Word}
 use Rattle.rebac.specs.Paths.{Graph, HasPath, has, path_count}

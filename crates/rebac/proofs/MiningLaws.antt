@@ -1,13 +1,10 @@
 -- What mining keeps, step by step: one induction for a term and one for a list, each over any property that a step preserves.
-use mathlib.Core.Path.{◌≡◌, refl, ◌∙◌}
-use mathlib.Core.Bool.{true, false, not, ◌&&◌}
+use Rattle.std.proofs.Common.{◌≡◌, refl, ◌∙◌, true, false, not, ◌&&◌, List, [], ◌∷◌, ◌++◌, suc, ◌+◌, ◌≤◌}
+use Rattle.std.proofs.Common.{arith, length, length-append, leb-true, ltb-true, ltb-false, le-leb}
+use Rattle.std.proofs.lemmas.Bool.{lt-leb, not-true, not-false}
 use mathlib.Core.List.Memᴰ
-use mathlib.Core.List.{List, [], ◌∷◌, ◌++◌, Memᴰ}
-use mathlib.Core.Option.{none}
-use Prim.Native.Nat.{suc, ◌+◌, ◌≤◌}
-use native.Mathlib.Omega.{arith}
-use lib.ListN.{length, length-append}
-use borrow.Author.Tests.{leb-true, ltb-true, ltb-false, le-leb, lt-leb, not-true, not-false}
+use mathlib.Core.List.{Memᴰ}
+use Rattle.std.proofs.Math.Option.{none}
 use Rattle.lists.specs.Lists.{all_of, first_by}
 use Rattle.lists.proofs.Cases.{by_test, by_found, by_mem, by_last, both, and_false, and_left, and_right}
 use Rattle.lists.proofs.ListLaws.{all_of_lem, filter_in, filter_out, find_none, find_some}

@@ -1,7 +1,6 @@
 -- Whether something was found, as an equation.
-use mathlib.Core.Path.{◌≡◌, refl}
-use mathlib.Core.Bool.{true, false}
-use mathlib.Core.Option.{Option, none, some}
+use Rattle.std.proofs.Common.{◌≡◌, refl, true, false}
+use Rattle.std.proofs.Math.Option.{Option, none, some}
 use Rattle.lists.proofs.Cases.{both}
 use Rattle.rebac.specs.promises.Options.{is_some}
 

@@ -1,9 +1,7 @@
 -- Scores in plain words, where words are not counted (languages 0 to 3): a score is 1 where the pair has the word, else 0; so covering is
 -- having all words, and lacking is not having the word. By cases on the two scores.
-use mathlib.Core.Path.{◌≡◌, refl}
-use mathlib.Core.Bool.{true, not}
-use mathlib.Core.List.{List, [], ◌∷◌, Memᴰ}
-use lib.Dec.{leb}
+use Rattle.std.proofs.Common.{◌≡◌, refl, true, not, List, [], ◌∷◌, leb}
+use mathlib.Core.List.{Memᴰ}
 use Rattle.lists.specs.Lists.{all_of}
 use Rattle.lists.proofs.Cases.{by_test}
 use Rattle.rebac.specs.Matter.{Matter, Pair}

@@ -1,15 +1,10 @@
 -- The search finds a path exactly where one exists: by induction on the word, with the parties seen so far.
-use mathlib.Core.Path.{◌≡◌, refl, sym, ap, ◌∙◌}
-use mathlib.Core.Logic.{◌⊎◌, ◌↔◌}
-use mathlib.Core.Bool.{Bool, true, false, not, ◌&&◌}
+use Rattle.std.proofs.Common.{◌≡◌, refl, sym, ap, ◌∙◌, ◌⊎◌, ◌↔◌, Bool, true, false, not, ◌&&◌, List, [], ◌∷◌, map, ℕ, suc}
+use Rattle.std.proofs.Common.{◌≤◌, ◌<◌, min, arith, eqb, leb, ltb, length, eqb-true, eq-eqb, le-leb, leb-true, leb-false}
+use Rattle.std.proofs.lemmas.Bool.{not-true, lt-leb}
 use mathlib.Core.List.Memᴰ
-use mathlib.Core.List.{List, [], ◌∷◌, map, Memᴰ}
-use mathlib.Core.Option.{none, some}
-use Prim.Native.Nat.{ℕ, suc, ◌≤◌, ◌<◌, min}
-use native.Mathlib.Omega.{arith}
-use lib.Dec.{eqb, leb, ltb}
-use lib.ListN.{length}
-use borrow.Author.Tests.{eqb-true, eq-eqb, not-true, le-leb, leb-true, leb-false, lt-leb}
+use mathlib.Core.List.{Memᴰ}
+use Rattle.std.proofs.Math.Option.{none, some}
 use Rattle.lists.specs.Lists.{any_of, filter_by, member, range}
 use Rattle.lists.specs.Order.{Ascending, Distinct, only_if, sum_of}
 use Rattle.lists.proofs.Cases.{by_test, by_mem, clash, both, and_left, and_right}

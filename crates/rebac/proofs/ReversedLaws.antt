@@ -1,15 +1,14 @@
 -- A path read from its end is a path of the graph with its edges turned round;
 -- so a search back from the second party counts the pair's paths. By induction on the walk and on the symbols.
-use mathlib.Core.Path.{◌≡◌, refl, sym, ap, ◌∙◌}
-use mathlib.Core.Bool.{Bool, true, false, not, ◌&&◌, ◌||◌}
-use mathlib.Core.List.{List, [], ◌∷◌, ◌++◌, map, reverse, reverse-cons, reverse-append, reverse-reverse}
+use Rattle.std.proofs.Common.{◌≡◌, refl, sym, ap, ◌∙◌, Bool, true, false, not, ◌&&◌, ◌||◌, List, [], ◌∷◌}
+use Rattle.std.proofs.Common.{◌++◌, map, reverse, ℕ, ◌-◌, ◌≤◌, ◌<◌, arith, eqb, length, take, drop, length-drop}
+use Rattle.std.proofs.Common.{take-append-drop, take_at, eqb-true, eq-eqb, ne_eqb, leb-false}
+use Rattle.std.proofs.lemmas.Bool.{eqb-false}
+use Rattle.std.proofs.lemmas.List.{reverse-append, reverse-reverse}
+use mathlib.Core.List.{reverse-cons}
+use mathlib.Core.List.Memᴰ
 use mathlib.Core.List.{Memᴰ}
-use Prim.Native.Nat.{ℕ, ◌-◌, ◌≤◌, ◌<◌}
-use native.Mathlib.Omega.{arith}
-use lib.Dec.{eqb}
-use lib.ListN.{length, take, drop, length-drop, length-reverse, take-append-drop}
-use lib.Seq.{take_at}
-use borrow.Author.Tests.{eqb-true, eqb-false, eq-eqb, ne_eqb, leb-false}
+use Rattle.std.proofs.Math.ListN.{length-reverse}
 use Rattle.lists.specs.Lists.{any_of, member, range}
 use Rattle.lists.specs.Order.{Distinct, only_if}
 use Rattle.lists.proofs.Cases.{by_test, by_mem, by_last, and_left, and_right, and_both}
@@ -30,9 +29,9 @@ use Rattle.rebac.proofs.WordTestLaws.{from_one, last_cons, length_way, way_lengt
 
 module _ {A : Type 0} where
   reverse_out : (l : List A) {x : A} → Memᴰ x (reverse l) → Memᴰ x l
-  reverse_out [] m = absurd (mathlib.Core.List.Memᴰ.not-nil m)
+  reverse_out [] m = absurd (Memᴰ.not-nil m)
   reverse_out (y ∷ l) m =
-      by_last (reverse l) (rw (reverse-cons y l) at m) (λ n. mathlib.Core.List.Memᴰ.tail (reverse_out l n)) (λ e. mathlib.Core.List.Memᴰ.head e)
+      by_last (reverse l) (rw (reverse-cons y l) at m) (λ n. Memᴰ.tail (reverse_out l n)) (λ e. Memᴰ.head e)
 
   -- the first symbols of the list read from its end are its last ones
   take_reverse : (k : ℕ) (l : List A) → k ≤ length l → take k (reverse l) ≡ reverse (last_symbols k l)
@@ -47,8 +46,8 @@ module _ {A : Type 0} where
   reverse_distinct [] d = tt
   reverse_distinct (x ∷ l) d =
       rw (reverse-cons x l)
-      (distinct_append (reverse l) (x ∷ []) (reverse_distinct l d.1) (λ n. mathlib.Core.List.Memᴰ.not-nil n, tt)
-      (λ y m n. by_mem n (λ e. d.0 (rw (← e) (reverse_out l m))) (λ k. mathlib.Core.List.Memᴰ.not-nil k)))
+      (distinct_append (reverse l) (x ∷ []) (reverse_distinct l d.1) (λ n. Memᴰ.not-nil n, tt)
+      (λ y m n. by_mem n (λ e. d.0 (rw (← e) (reverse_out l m))) (λ k. Memᴰ.not-nil k)))
 
 -- the graph with its edges turned round
 abbrev pub turned : {S : Type 0} → Graph S → Graph S
@@ -172,7 +171,7 @@ module _ {S K : Type 0} (g : Graph S) (seen : ℕ → K → Bool) (mark : ℕ �
         sum_same _ _ (range g.parties) (λ c n.
         let l = range_out g.parties n in
         candidate_same v past b c _ _ t m l
-        (λ e. routes_seen (turned g) (c ∷ past) c a r s (mathlib.Core.List.Memᴰ.head (sym (eqb-true c a e))))
+        (λ e. routes_seen (turned g) (c ∷ past) c a r s (Memᴰ.head (sym (eqb-true c a e))))
         (λ e. count_routes r (mark c v) (c ∷ past) c (still_fresh past c e f)
         (marks_swap (mark c v) past c a (marks_more g seen mark marks v (a ∷ past) c l m))))
         ∙ sym (routes_count (turned g) past b a t (r ++ (s ∷ [])))
@@ -229,7 +228,7 @@ module _ {S K : Type 0} (g : Graph S) (seen : ℕ → K → Bool) (mark : ℕ �
         let a : ℕ = r.0 in
         let o = reach_out (turned g) past p.second a (reverse w) r.2 in
         let k : SimpleWalk (turned g) (pair p.second a) (reverse w) o.0 =
-        record { walk = o.1.walk; simple = (λ n. o.1.unseen p.second n (mathlib.Core.List.Memᴰ.head refl), o.1.simple) } in
+        record { walk = o.1.walk; simple = (λ n. o.1.unseen p.second n (Memᴰ.head refl), o.1.simple) } in
         let t = simple_turned (turned g) (pair p.second a) (reverse w) o.0 i.second k in
         let u : SimpleWalk g (pair a p.second) w t.0 = rw (reverse-reverse w) at t.2 in
         record {
@@ -239,7 +238,7 @@ module _ {S K : Type 0} (g : Graph S) (seen : ℕ → K → Bool) (mark : ℕ �
           path = walk_path g (pair a p.second) w t.0 h u;
           untouched = λ n. by_mem (reverse_out (p.second ∷ o.0) (rw t.1 n))
               (λ q. i.different q)
-              (λ j. o.1.unseen p.first j (mathlib.Core.List.Memᴰ.tail (mathlib.Core.List.Memᴰ.head refl)));
+              (λ j. o.1.unseen p.first j (Memᴰ.tail (Memᴰ.head refl)));
         }
 
     way_back_lem : (w : List S) → WayTo g p w → way_back g seen mark (λ c. true) v p.second (reverse w) ≡ true
@@ -247,13 +246,13 @@ module _ {S K : Type 0} (g : Graph S) (seen : ℕ → K → Bool) (mark : ℕ �
         let past : List ℕ = p.second ∷ p.first ∷ [] in
         let q : Pair = pair x.start p.second in
         let t = simple_turned g q w x.via x.inside (path_walk g q w x.via x.path) in
-        let free : Memᴰ p.first t.0 → ⊥ = λ n. x.untouched (reverse_out (x.start ∷ x.via) (rw t.1 (mathlib.Core.List.Memᴰ.tail n))) in
+        let free : Memᴰ p.first t.0 → ⊥ = λ n. x.untouched (reverse_out (x.start ∷ x.via) (rw t.1 (Memᴰ.tail n))) in
         let o : Onward (turned g) past p.second x.start (reverse w) t.0 =
         record {
           walk = t.2.walk;
           simple = t.2.simple.1;
           unseen = λ y n k. by_mem k (λ e. t.2.simple.0 (rw e at n))
-              (λ j. by_mem j (λ e. free (rw e at n)) (λ z. mathlib.Core.List.Memᴰ.not-nil z));
+              (λ j. by_mem j (λ e. free (rw e at n)) (λ z. Memᴰ.not-nil z));
         } in
         reach_way (reverse w) v past p.second x.start m (reach_in (turned g) past p.second x.start (reverse w) t.0 o)
 

@@ -1,14 +1,9 @@
 -- Laws for callers of the search: what it depends on, how long a word can be, that
 -- more edges give no fewer paths. By induction on the word.
-use mathlib.Core.Path.{◌≡◌, refl, sym, ap, ◌∙◌}
-use mathlib.Core.Bool.{Bool, true, false, not, ◌&&◌}
-use mathlib.Core.List.{List, [], ◌∷◌, map, Memᴰ}
-use mathlib.Core.Option.{some}
-use Prim.Native.Nat.{ℕ, suc, ◌≤◌, ◌<◌, min}
-use native.Mathlib.Omega.{arith}
-use lib.Dec.{eqb, leb}
-use lib.ListN.{length}
-use borrow.Author.Tests.{ne_eqb, eqb-true, eq-eqb}
+use Rattle.std.proofs.Common.{◌≡◌, refl, sym, ap, ◌∙◌, Bool, true, false, not, ◌&&◌, List, [], ◌∷◌, map}
+use Rattle.std.proofs.Common.{ℕ, suc, ◌≤◌, ◌<◌, min, arith, eqb, leb, length, ne_eqb, eqb-true, eq-eqb}
+use mathlib.Core.List.{Memᴰ}
+use Rattle.std.proofs.Math.Option.{some}
 use Rattle.lists.specs.Lists.{any_of, flat_map, member, range}
 use Rattle.lists.specs.Order.{first_element, only_if, sum_of}
 use Rattle.lists.proofs.Cases.{by_test, by_mem, both, and_left, and_right, and_both, and_false}

@@ -1,8 +1,6 @@
 -- Lists that fit a conversion over scores, and plain words as items: what the theorems of proofs/Existence and Conversion speak of.
-use mathlib.Core.Path.{◌≡◌}
-use mathlib.Core.List.{List, map, Memᴰ}
-use Prim.Native.Nat.{◌≤◌}
-use lib.ListN.{length}
+use Rattle.std.proofs.Common.{◌≡◌, List, map, ◌≤◌, length}
+use mathlib.Core.List.{Memᴰ}
 use Rattle.rebac.specs.Words.{Word}
 use Rattle.rebac.specs.Rules.{Problem, Item, Term, RuleList, permits}
 

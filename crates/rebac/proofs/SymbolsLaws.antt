@@ -1,12 +1,9 @@
 -- The symbols that hold are those in a row of Table 1, by cases on kind and language; the alphabet lists the language.
-use mathlib.Core.Path.{◌≡◌, refl, sym, ◌∙◌}
-use mathlib.Core.Logic.{◌⊎◌, inl, inr, ⊎_elim}
-use mathlib.Core.Bool.{true, false, ◌&&◌}
-use mathlib.Core.List.{List, [], ◌∷◌, map, Memᴰ}
-use Prim.Native.Nat.{ℕ, zero, suc, ◌+◌, ◌*◌, ◌/◌, ◌%◌, ◌≤◌, ◌<◌}
-use native.Mathlib.Omega.{arith}
-use lib.Dec.{eqb, ltb}
-use borrow.Author.Tests.{ltb-true, lt-ltb, eqb-false, ne_eqb, not-true}
+use Rattle.std.proofs.Common.{◌≡◌, refl, sym, ◌∙◌, ◌⊎◌, inl, inr, ⊎_elim, true, false, ◌&&◌, List, [], ◌∷◌, map, ℕ}
+use Rattle.std.proofs.Common.{zero, suc, ◌+◌, ◌*◌, ◌/◌, ◌%◌, ◌≤◌, ◌<◌, arith, eqb, ltb, ltb-true, lt-ltb, ne_eqb}
+use Rattle.std.proofs.lemmas.Bool.{eqb-false, not-true}
+use mathlib.Core.List.Memᴰ
+use mathlib.Core.List.{Memᴰ}
 use Rattle.lists.specs.Lists.{all_of, any_of, flat_map, member, up_from, range}
 use Rattle.lists.specs.Order.{Ascending}
 use Rattle.lists.proofs.Cases.{by_test, by_mem, clash, and_left, and_right}
@@ -37,8 +34,8 @@ kinds_below g {k} m = ltb-true k 4 (all_in (λ k. ltb k 4) (kinds g) (all_below 
 
 two_ascending : (x y : ℕ) → x < y → Ascending ltb (x ∷ y ∷ [])
 two_ascending x y h = (
-  λ z n. by_mem n (λ e. lt-ltb x z (omega arith)) (λ o. absurd (mathlib.Core.List.Memᴰ.not-nil o)),
-  (λ z n. absurd (mathlib.Core.List.Memᴰ.not-nil n), tt),
+  λ z n. by_mem n (λ e. lt-ltb x z (omega arith)) (λ o. absurd (Memᴰ.not-nil o)),
+  (λ z n. absurd (Memᴰ.not-nil n), tt),
 )
 
 kinds_ascending_lem : (g : ℕ) → Ascending ltb (kinds g)
@@ -69,10 +66,10 @@ holds_table M u v label kind a b c d m =
 -- Tables 1 and 2 agree: a language uses the kinds whose rows are ticked for it
 plain_used : (g : ℕ) → Memᴰ 0 (kinds g)
 unfolding kinds
-plain_used zero = mathlib.Core.List.Memᴰ.head refl
-plain_used (suc zero) = mathlib.Core.List.Memᴰ.head refl
-plain_used (suc (suc zero)) = mathlib.Core.List.Memᴰ.head refl
-plain_used (suc (suc (suc g))) = mathlib.Core.List.Memᴰ.head refl
+plain_used zero = Memᴰ.head refl
+plain_used (suc zero) = Memᴰ.head refl
+plain_used (suc (suc zero)) = Memᴰ.head refl
+plain_used (suc (suc (suc g))) = Memᴰ.head refl
 
 all_used : (g : ℕ) → 3 ≤ g → kinds g ≡ 0 ∷ 1 ∷ 2 ∷ 3 ∷ []
 unfolding kinds

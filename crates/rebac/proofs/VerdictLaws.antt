@@ -1,11 +1,9 @@
 -- What each verdict says: by the first pair that spoils it, and by that pair's words and first rival.
-use mathlib.Core.Path.{◌≡◌, refl, sym}
-use mathlib.Core.Bool.{true, false, not}
+use Rattle.std.proofs.Common.{◌≡◌, refl, sym, true, false, not, List, [], ◌∷◌, ◌≤◌, leb-true}
+use Rattle.std.proofs.lemmas.Bool.{not-true, not-false}
 use mathlib.Core.List.Memᴰ
-use mathlib.Core.List.{List, [], ◌∷◌, Memᴰ}
-use mathlib.Core.Option.{Option, none, some}
-use Prim.Native.Nat.{◌≤◌}
-use borrow.Author.Tests.{leb-true, not-true, not-false}
+use mathlib.Core.List.{Memᴰ}
+use Rattle.std.proofs.Math.Option.{Option, none, some}
 use Rattle.lists.specs.Lists.{first_by}
 use Rattle.lists.proofs.Cases.{by_test, by_found, clash, both, and_false, and_left, and_right}
 use Rattle.lists.proofs.ListLaws.{all_in, find_none, find_none_of, find_some, First}

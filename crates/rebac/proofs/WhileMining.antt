@@ -1,11 +1,8 @@
 -- The verdict may be reached while mining: a pair that an earlier term permits is no
 -- hindrance, and a rival shows while its pair's term is built.
-use mathlib.Core.Path.{◌≡◌, refl, sym, ap, ◌∙◌}
-use mathlib.Core.Logic.{◌↔◌}
-use mathlib.Core.Bool.{true, false, not, ◌&&◌}
-use mathlib.Core.List.{List, [], ◌∷◌, ◌++◌}
-use mathlib.Core.Option.{none, some}
-use borrow.Author.Tests.{leb-true, le-ltb, not-false}
+use Rattle.std.proofs.Common.{◌≡◌, refl, sym, ap, ◌∙◌, ◌↔◌, true, false, not, ◌&&◌, List, [], ◌∷◌, ◌++◌, leb-true, le-ltb}
+use Rattle.std.proofs.lemmas.Bool.{not-false}
+use Rattle.std.proofs.Math.Option.{none, some}
 use Rattle.lists.specs.Lists.{any_of, first_by}
 use Rattle.lists.proofs.Cases.{by_test, by_found, clash, both, and_false, and_both, and_left}
 use Rattle.lists.proofs.ListLaws.{all_in, all_of_lem, find_none_of, find_in}

@@ -1,14 +1,8 @@
 -- The length that the word test returns is 02's: by induction on the word, and a path without its first step is a path.
-use mathlib.Core.Path.{◌≡◌, refl, ap, ◌∙◌}
-use mathlib.Core.Logic.{◌↔◌}
-use mathlib.Core.Bool.{true, false}
-use mathlib.Core.List.{List, [], ◌∷◌, Memᴰ}
-use Prim.Native.Nat.{ℕ, zero, suc, ◌+◌, ◌-◌, ◌≤◌, ◌<◌}
-use native.Mathlib.Omega.{arith}
-use lib.Dec.{eqb}
-use lib.ListN.{length, drop, length-drop}
-use lib.Seq.{drop-drop}
-use borrow.Author.Tests.{eqb-true, eqb-false, not-true}
+use Rattle.std.proofs.Common.{◌≡◌, refl, ap, ◌∙◌, ◌↔◌, true, false, List, [], ◌∷◌, ℕ, zero, suc, ◌+◌, ◌-◌}
+use Rattle.std.proofs.Common.{◌≤◌, ◌<◌, arith, eqb, length, drop, length-drop, drop-drop, eqb-true}
+use Rattle.std.proofs.lemmas.Bool.{eqb-false, not-true}
+use mathlib.Core.List.{Memᴰ}
 use Rattle.lists.specs.Lists.{member, range}
 use Rattle.lists.proofs.Cases.{by_test, both}
 use Rattle.lists.proofs.ListLaws.{any_in, any_out, member_in, member_not, range_in, range_out}

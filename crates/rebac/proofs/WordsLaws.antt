@@ -1,12 +1,8 @@
 -- The listed words are the words of 1 to d symbols of the alphabet, each once, in word order: by induction on the length.
-use mathlib.Core.Path.{◌≡◌, refl, sym, ap, ◌∙◌}
+use Rattle.std.proofs.Common.{◌≡◌, refl, sym, ap, ◌∙◌, List, [], ◌∷◌, map, ℕ, zero, suc, arith, ltb, length}
 use mathlib.Core.List.Memᴰ
-use mathlib.Core.List.{List, [], ◌∷◌, map, Memᴰ}
-use Prim.Native.Nat.{ℕ, zero, suc}
-use native.Mathlib.Omega.{arith}
-use native.Mathlib.Decide.{ℕ_discrete}
-use lib.Dec.{ltb}
-use lib.ListN.{length}
+use mathlib.Core.List.{Memᴰ}
+use Rattle.std.proofs.Math.Decide.{ℕ_discrete}
 use Rattle.lists.specs.Order.{Ascending, Distinct}
 use Rattle.lists.proofs.Cases.{by_mem, by_append}
 use Rattle.lists.proofs.ListLaws.{flat_in, flat_out, map_in, map_out}

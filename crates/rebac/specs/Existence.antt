@@ -1,6 +1,6 @@
 -- "A rule list exists", as a statement over every list, and the answers for a matter.
-use Rattle.std.specs.Prelude.{◌≡◌, Bool, ℕ, ◌≤◌, length}
-use mathlib.Core.List.{List, map, Memᴰ}
+use Rattle.std.specs.Prelude.{◌≡◌, Bool, ℕ, ◌≤◌, length, List, map}
+use mathlib.Core.List.{Memᴰ}
 use Rattle.lists.specs.Lists.{all_of, any_of}
 use Rattle.rebac.specs.Matter.{Matter, Pair, pairs_of, permitted}
 use Rattle.rebac.specs.Words.{Word, words_up_to, IsWord}

@@ -1,7 +1,7 @@
 -- 000's own wording: paths as linked sequences of triples, and the variations of paths that the languages use.
 -- Theorems tie it to 01's paths and to the enlarged graph (proofs/Triples, SymbolsLaws, MatterLaws).
-use Rattle.std.specs.Prelude.{◌≡◌, ◌⊎◌, true, false, ℕ, ◌+◌, ◌*◌, ◌≤◌, ◌<◌}
-use mathlib.Core.List.{List, [], ◌∷◌, map, Memᴰ}
+use Rattle.std.specs.Prelude.{◌≡◌, ◌⊎◌, true, false, ℕ, ◌+◌, ◌*◌, ◌≤◌, ◌<◌, List, [], ◌∷◌, map}
+use mathlib.Core.List.{Memᴰ}
 use Rattle.rebac.specs.Matter.{Matter, Pair}
 use Rattle.rebac.specs.Paths.{Graph}
 

@@ -1,6 +1,6 @@
 -- 02, Ticket 4: the length that the test whether a pair has a word returns, in 02's words and as a function.
-use Rattle.std.specs.Prelude.{◌≡◌, Bool, not, ℕ, ◌-◌, ◌≤◌, ◌<◌, length, drop}
-use mathlib.Core.List.{List, [], ◌∷◌, Memᴰ}
+use Rattle.std.specs.Prelude.{◌≡◌, Bool, not, ℕ, ◌-◌, ◌≤◌, ◌<◌, length, drop, List, [], ◌∷◌}
+use mathlib.Core.List.{Memᴰ}
 use Rattle.lists.specs.Lists.{pick, any_of, member, range}
 use Rattle.rebac.specs.Matter.{Pair, pair}
 use Rattle.rebac.specs.Paths.{Graph, Path, HasPath, has, paths_of}

@@ -1,6 +1,6 @@
 -- Words (000: path labels) and their order. A word is the list of its symbols.
-use Rattle.std.specs.Prelude.{Bool, true, false, ◌&&◌, ◌||◌, ℕ, zero, suc, ◌≤◌, ltb, eqb, length}
-use mathlib.Core.List.{List, [], ◌∷◌, ◌++◌, map, Memᴰ}
+use Rattle.std.specs.Prelude.{Bool, true, false, ◌&&◌, ◌||◌, ℕ, zero, suc, ◌≤◌, ltb, eqb, length, List, [], ◌∷◌, ◌++◌, map}
+use mathlib.Core.List.{Memᴰ}
 use Rattle.lists.specs.Lists.{flat_map}
 
 abbrev pub Word : Type 0

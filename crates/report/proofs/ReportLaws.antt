@@ -1,16 +1,11 @@
 -- What is printed fits: a verdict's line has at most 64 bytes, what is written is inside its slice, and standard input that is cut is
 -- refused. The line, and the list's part in the tail behind it, are the text of the file. Assumes nothing.
-use mathlib.Core.Path.{◌≡◌, refl, sym, ap, ◌∙◌}
-use mathlib.Core.List.{List, [], ◌++◌, append-nil}
-use Prim.Native.Nat.{ℕ, ◌+◌, ◌-◌, ◌≤◌, ◌<◌}
-use native.Mathlib.Omega.{arith}
-use native.Mathlib.Nat.{zero-add}
-use lib.ListN.{length, take, drop, length-append, length-drop, drop_of_length-le}
-use lib.Seq.{length-take-le, take-append_seam, take_all, drop-drop}
+use Rattle.std.proofs.Common.{◌≡◌, refl, sym, ap, ◌∙◌, List, [], ◌++◌, append-nil, ℕ, ◌+◌, ◌-◌, ◌≤◌, ◌<◌}
+use Rattle.std.proofs.Common.{arith, zero-add, length, take, drop, length-append, length-drop, drop_of_length-le}
+use Rattle.std.proofs.Common.{length-take-le, take_all, drop-drop, le-leb, Result, Ok, Err}
+use Rattle.std.proofs.Math.Seq.{take-append_seam}
 use borrow.Author.Rules.{part_to_end}
 use borrow.Rule.Slice.PartMut.{put_mid, mid_of}
-use borrow.Author.Tests.{le-leb}
-use Rattle.std.specs.Prelude.{Result, Ok, Err}
 use Rattle.rebac.specs.Matter.{Matter}
 use Rattle.rebac.specs.Verdict.{convertible}
 use Rattle.rebac.specs.Existence.{verdict_of}
@@ -33,9 +28,9 @@ use Rattle.house_layout.proofs.RefusalNumbers.{number_small}
 use Rattle.house_layout.proofs.RecordLaws.{by_check}
 use Rattle.conversion.proofs.Demand3.{convertible_accepted, convertible_verdict, length_bound, no_word_parties, rival_parties}
 use Rattle.fields.specs.Decimal.{decimal_text}
-use Rattle.report.specs.promises.Prefix.{PrefixLength, ListOf}
-use Rattle.report.specs.Report.{pair_text, refused_line, verdict_line, list_part, file_text, report_text}
-use Rattle.fields.proofs.WroteLaws.{wrote_two}
+use Rattle.report.specs.promises.Prefix.{PrefixLength, ListOf, text_room}
+use Rattle.report.specs.Report.{list_limit, pair_text, refused_line, verdict_line, list_part, file_text, report_text}
+use Rattle.fields.proofs.WroteLaws.{wrote_length, wrote_two}
 use Rattle.fields.proofs.DecimalLaws.{decimal_length}
 use Rattle.report.proofs.LineLaws.{pair_length, refused_length, convertible_length, no_word_length, rival_length}
 
@@ -168,3 +163,32 @@ no_list M (Err x) n = refl
 no_list M (Ok (Convertible k)) n = absurd (n k refl)
 no_list M (Ok (NoWord p)) n = refl
 no_list M (Ok (Rival p q)) n = refl
+
+-- the verdict's line has at most 64 bytes
+pub fits : (f : List ℕ) {v : Result Verdict Refusal} → v ≡ verdict_call f → length (verdict_line v) ≤ 64
+fits f e = omega (arith, line_fits f, ap (λ (r : Result Verdict Refusal). length (verdict_line r)) e)
+
+-- and so has the line as it was written, and the text's length is kept
+pub room : (f : List ℕ) {v : Result Verdict Refusal} {old out : List ℕ} {end : ℕ}
+    → v ≡ verdict_call f → text_room ≤ length old → Wrote old 0 (verdict_line v) out end
+    → (end ≤ 64) × (length out ≡ length old)
+room f e h w = let l = fits f e in (omega (arith, l, w.place), wrote_length w (omega (arith, h, l)))
+
+-- the file whose list stands at the start of what conversion wrote
+pub list_here : (f : List ℕ) {v : Result Verdict Refusal} {k : ℕ} {list : List ℕ}
+    → (v ≡ verdict_call f) × ((n : ℕ) → verdict_call f ≡ Ok (Convertible n) → n ≤ list_limit → take n list ≡ bytes_of (matter_of f))
+    → v ≡ Ok (Convertible k) → ListOf f k list
+list_here f r d = let e = sym r.0 ∙ d in record { verdict = e; bytes = r.1 _ e }
+
+-- the line and the list's part behind it
+pub whole : (f : List ℕ) {v : Result Verdict Refusal} {k : ℕ} {old out part : List ℕ} {end last : ℕ}
+    → v ≡ verdict_call f → v ≡ Ok (Convertible k) → text_room ≤ length old → Wrote old 0 (verdict_line v) out end
+    → Wrote (mid_of end (length out - end) out) 0 (list_part (matter_of f) (Ok (Convertible k))) part last
+    → (let new = put_mid end (length out - end) out part in
+    Wrote old 0 (file_text f) new (end + last) × PrefixLength (end + last) new)
+whole f {v} {k} {old} {out} {part} {end} e d h w p =
+    let r = room f e h w in
+    line_then_list f (sym e) d w (wrote_tail out end (omega (arith, r.0, r.1, h)) p)
+
+-- by these, goals of `write_report` are found
+pub ruleset report_laws = (fits, room, list_here)

@@ -30,6 +30,7 @@ fn list_part(list: &[u8], k: usize, text: &mut [u8]) -> usize
 }
 
 // What permitconv prints for a file, from the first byte on, and its length: 64 bytes are enough for the line.
+#[tactic(auto, using(crate::proofs::ReportLaws::report_laws))]
 pub fn write_report(file: &[u8], text: &mut [u8]) -> usize
     requires { text_room ≤ length text.old }
     ensures wrote { Wrote text.old 0 (file_text file.now) text.new result }

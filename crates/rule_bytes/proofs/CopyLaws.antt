@@ -1,11 +1,7 @@
 -- A copy to a part of a slice is bytes written at its place, and one over zeros is a word value. Assumes nothing.
-use mathlib.Core.Path.{◌≡◌, ap, ◌∙◌}
-use mathlib.Core.List.{List, ◌++◌}
-use Prim.Native.Nat.{ℕ, zero, suc, ◌-◌, ◌≤◌}
-use native.Mathlib.Omega.{arith}
-use native.Mathlib.Nat.{sub-zero, zero-sub}
-use lib.ListN.{length, take, drop, replicate}
-use lib.Seq.{drop-drop, length-take-le}
+use Rattle.std.proofs.Common.{◌≡◌, ap, ◌∙◌, List, ◌++◌, ℕ, zero, suc, ◌-◌, ◌≤◌, arith, length}
+use Rattle.std.proofs.Common.{take, drop, replicate, drop-drop, length-take-le}
+use Rattle.std.proofs.Math.Nat.{sub-zero, zero-sub}
 use borrow.Rule.Slice.PartMut.{put_mid}
 use Rattle.fields.specs.promises.Writing.{put}
 use Rattle.search.specs.declared.word.Word.{Word}

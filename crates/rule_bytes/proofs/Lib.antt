@@ -3,3 +3,4 @@ pub mod RoundTrip
 pub mod ReadingLaws
 pub mod CopyLaws
 pub mod PlaceLaws
+pub mod WordsLaws

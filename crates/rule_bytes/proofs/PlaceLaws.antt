@@ -1,37 +1,27 @@
 -- What stands at a place of a checked list: the next entry is the first of those ahead. Assumes nothing.
-use mathlib.Core.Path.{◌≡◌, refl, sym, ap, ◌∙◌}
-use mathlib.Core.Bool.{true}
-use mathlib.Core.List.{List, [], ◌∷◌, ◌++◌, append_assoc, append-nil, Memᴰ}
-use mathlib.Core.Option.{Option, none, some}
-use Prim.Native.Nat.{ℕ, ◌+◌, ◌/◌, ◌-◌, ◌≤◌, ◌<◌}
-use native.Mathlib.Omega.{arith}
-use lib.ListN.{length, take, drop, get_or, length-append, length-drop}
-use lib.Seq.{take-append_seam, drop-append_seam, get_or-drop}
-use lib.Dec.{leb, ltb}
-use borrow.Author.Tests.{leb-true, ltb-true}
+use Rattle.std.proofs.Common.{◌≡◌, refl, sym, ap, ◌∙◌, true, List, [], ◌∷◌, ◌++◌, append_assoc, append-nil, ℕ, ◌+◌, ◌/◌, ◌-◌, ◌≤◌, ◌<◌}
+use Rattle.std.proofs.Common.{arith, length, take, drop, get_or, length-append, length-drop, get_or-drop, leb, ltb, leb-true, ltb-true}
+use mathlib.Core.List.{Memᴰ}
+use Rattle.std.proofs.Math.Option.{Option, none, some}
+use Rattle.std.proofs.Math.Seq.{take-append_seam, drop-append_seam}
 use Rattle.lists.specs.Lists.{all_of, flat_map}
 use Rattle.lists.proofs.Cases.{and_left, and_right}
 use Rattle.fields.specs.Numbers.{u16_at, u16_bytes}
 use Rattle.lists.proofs.ListLaws.{all_in}
 use Rattle.lists.proofs.Pointwise.{get_or_below}
-use Rattle.search.proofs.ValueLaws.{value_full, value_below}
+use Rattle.search.proofs.ValueLaws.{value_full, value_below, word_symbols}
+use Rattle.search.specs.Word.{symbols_in}
 use Rattle.search.specs.promises.WordValues.{Short, word_of}
 use Rattle.rule_bytes.specs.ListBytes.{encode_word, encode_term, encode_list, Parsed, parsed, decode_count, legal_word, LegalTerm}
 use Rattle.rule_bytes.specs.ListBytes.{LegalList}
 use Rattle.graph.specs.Legal.{legal_symbol}
-use Rattle.rule_bytes.specs.promises.Reading.{WordFits, word_at, FitWord, FitTerm, FitList, TermAt, IsList}
+use Rattle.rule_bytes.specs.promises.Reading.{WordFits, word_at, FitWord, FitTerm, FitList, TermAt, IsList, Ahead}
 use Rattle.rule_bytes.specs.declared.read.WordRead.{WordRead}
 use Rattle.fields.proofs.NumberLaws.{u16_size}
 use Rattle.rule_bytes.proofs.RoundTrip.{count_encode}
 use Rattle.rule_bytes.proofs.ReadingLaws.{drop_on, count_here}
 
--- entries ahead of a place, and what follows them
-pub record Ahead {A : Type 0} (e : A → List ℕ) (P : A → Type 0) (b : List ℕ) (place left : ℕ) (xs : List A) (s : List ℕ) : Type 0 where
-  pub bytes : drop place b ≡ flat_map e xs ++ s
-  pub number : length xs ≡ left
-  pub fits : (x : A) → Memᴰ x xs → P x
-
--- the first of them
+-- the first of the entries ahead
 pub record Entry {A : Type 0} (e : A → List ℕ) (P : A → Type 0) (b : List ℕ) (place left : ℕ) (xs : List A) (s : List ℕ) : Type 0 where
   pub first : A
   pub rest : List A
@@ -78,6 +68,9 @@ module _ (b : List ℕ) (at : ℕ) (w s : List ℕ) (here : drop at b ≡ encode
   -- the same of a word that was read there
   pub word_read : {r : WordRead} → r ≡ word_at b at → r.word ≡ word_of w
   word_read e = ap (λ (r : WordRead). r.word) e ∙ word_value
+
+  pub read_symbols : {r : WordRead} → r ≡ word_at b at → symbols_in r.word ≡ w
+  read_symbols e = ap symbols_in (word_read e) ∙ word_symbols w
 
   pub word_next : drop (word_at b at).next b ≡ s
   word_next = rw word_byte (sym (drop_on b (at + 1) (length w)) ∙ rw word_tail (drop-append_seam w s))
@@ -147,6 +140,15 @@ list_ahead b l h =
       number = sym (count_value b 0 (length l) (flat_map encode_term l) h.bytes);
       fits = h.fits.terms;
     }
+
+-- of `number` terms the first i were read: the next one, and that it stands at the place
+module _ {b : List ℕ} {place number i : ℕ} {l : List (List (List ℕ))} (ahead : Ahead encode_term FitTerm b place (number - i) l [])
+    (h : i < number) where
+  pub next_term : Entry encode_term FitTerm b place (number - i) l []
+  next_term = entry l ahead (omega (arith, h))
+
+  pub next_term_at : TermAt b place next_term.first (flat_map encode_term next_term.rest ++ [])
+  next_term_at = record { bytes = next_term.bytes; fits = next_term.fits }
 
 -- a legal list fits, by the limits of L and D
 module _ (labels language longest : ℕ) (bounded : labels ≤ 8) (short : longest ≤ 31) where

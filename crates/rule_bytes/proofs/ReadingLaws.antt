@@ -1,17 +1,11 @@
 -- A part at a place of the bytes, as the check goes over it: a word by its length byte, many parts one by one. Assumes nothing.
-use mathlib.Core.Path.{◌≡◌, refl, ap, ◌∙◌}
-use mathlib.Core.Bool.{Bool, true, false, ◌&&◌}
-use mathlib.Core.List.{List, [], ◌∷◌}
-use mathlib.Core.Option.{Option, none}
-use Prim.Native.Nat.{ℕ, zero, suc, ◌+◌, ◌-◌, ◌≤◌, ◌<◌}
-use native.Mathlib.Omega.{arith}
-use native.Mathlib.Numerals.{add-one}
-use lib.ListN.{length, take, drop, get_or, length-drop, drop_of_length-le}
-use lib.Seq.{drop-cons, drop-drop, length-take-le}
-use lib.Dec.{leb, eqb}
-use borrow.Author.Tests.{leb-true, le-leb, lt-leb, eqb-true, eqb-false}
+use Rattle.std.proofs.Common.{◌≡◌, refl, ◌∙◌, true, false, ◌&&◌, List, [], ◌∷◌, ℕ, zero, suc, ◌+◌, ◌-◌, ◌≤◌, ◌<◌, arith}
+use Rattle.std.proofs.Common.{add-one, length, take, drop, get_or, length-drop, drop_of_length-le, drop-cons, drop-drop}
+use Rattle.std.proofs.Common.{length-take-le, leb, eqb, leb-true, le-leb, eqb-true, Some, None, MatchOption}
+use Rattle.std.proofs.lemmas.Bool.{lt-leb, eqb-false}
+use Rattle.std.proofs.Math.Option.{Option, none}
 use Rattle.lists.specs.Lists.{all_of}
-use Rattle.std.specs.List.{list_all, slice_range}
+use Rattle.std.specs.List.{slice_range}
 use Rattle.lists.proofs.Cases.{by_test, and_false}
 use Rattle.rebac.specs.Options.{given}
 use Rattle.rebac.specs.promises.Options.{is_some}
@@ -20,18 +14,12 @@ use Rattle.rule_bytes.specs.ListBytes.{Parsed, parsed, and_then, whole, decode_c
 use Rattle.rule_bytes.specs.ListBytes.{decode_term, decode_terms, decode_list}
 use Rattle.graph.specs.Legal.{legal_symbol}
 use Rattle.std.specs.Option.{option_eq}
-use Rattle.std.specs.Prelude.{Option as Passed, Some, None, MatchOption}
+use Rattle.std.specs.Prelude.{Option as Passed}
 use Rattle.rule_bytes.specs.promises.Reading.{Passes, PassesMany}
 
 -- a range of k bytes
 pub range_is : (b : List ℕ) (from k : ℕ) → slice_range b from (from + k) ≡ take k (drop from b)
 range_is b from k = let e : from + k - from ≡ k = omega arith in rw e
-
--- every element passes, in the words of std
-pub all_is : {A : Type 0} (p : A → Bool) (l : List A) → list_all p l ≡ all_of p l
-unfolding all_of
-all_is p [] = refl
-all_is p (x ∷ l) = ap (λ q. p x && q) (all_is p l)
 
 -- the bytes from a place on, after k of them
 pub drop_on : (b : List ℕ) (at k : ℕ) → drop k (drop at b) ≡ drop (at + k) b
@@ -97,6 +85,9 @@ module _ (labels language longest : ℕ) where
           let m : k ≤ length r = omega (arith, length-drop (at + 1) b) in
           let g = all_good k r m one l e in
           word_here ∙ rw (le-leb k (length r) m, g, drop_on b (at + 1) k)
+
+-- the ways in which the word at a place breaks the layout
+pub ruleset word_breaks = (word_end, word_empty, word_long, word_cut, word_wrong, range_is)
 
 -- the checks from one place on are the check there and those from the place that it gives
 pub many_from : (R : ℕ → Passed ℕ → Type 0) (n i at : ℕ) (o r : Passed ℕ) → i < n → R at o

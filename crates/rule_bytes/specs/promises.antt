@@ -1,2 +1,3 @@
 -- What functions promise each other; no contract of a call rests on these definitions.
 pub mod Reading
+pub mod Words

@@ -1,65 +1,55 @@
 // The check of a rule list: one pass over any bytes.
 ghost use Rattle.std.specs.Prelude.{◌≡◌, ℕ, ◌≤◌, length, Some};
-ghost use Rattle.lists.specs.Lists.{all_of};
-ghost use Rattle.limits.specs.Limits.{last_language};
 ghost use Rattle.rebac.specs.promises.Options.{is_some};
 ghost use Rattle.rule_bytes.specs.ListBytes.{decode_word, decode_term, decode_list};
-ghost use Rattle.graph.specs.Legal.{legal_symbol};
 ghost use Rattle.rule_bytes.specs.promises.Reading.{Passes, PassesMany};
 
 use fields::u16_at;
+use graph::WordRule;
 
-// What makes a word legal: labels below L, a language, at most D symbols.
+// A list under the check by the rule for a file's words.
 #[derive(Clone, Copy)]
-struct WordRule {
-    labels: usize,
-    language: usize,
-    longest: usize,
-    ghost known: { language ≤ last_language },
+struct Checked<'a> {
+    rule: WordRule,
+    list: &'a [u8],
 }
 
-impl WordRule {
-    fn legal_symbols(self, symbols: &[u8]) -> bool
-        ensures { result ≡ all_of (legal_symbol self.labels self.language) symbols.now }
-    {
-        symbols
-            .iter()
-            .all(|&s| graph::legal_symbol(self.labels, self.language, s))
-    }
-
+impl Checked<'_> {
     // The word at a place: the place after it, or none where it breaks the layout.
-    fn check_word(self, list: &[u8], at: usize) -> Option<usize>
-        requires { at ≤ length list.now }
-        ensures { Passes (decode_word self.labels self.language self.longest) list.now at result }
+    #[tactic(auto, using(crate::proofs::ReadingLaws::word_breaks))]
+    fn word(&self, at: usize) -> Option<usize>
+        requires { at ≤ length self.now.list.now }
+        ensures { Passes (decode_word self.now.rule.labels self.now.rule.language self.now.rule.longest) self.now.list.now at result }
     {
-        let size = usize::from(*list.get(at)?);
+        let size = usize::from(*self.list.get(at)?);
         if size == 0 {
             return None;
         }
-        if self.longest < size {
+        if self.rule.longest < size {
             return None;
         }
         let end = at + 1 + size;
-        let symbols = list.get(at + 1..end)?;
-        if self.legal_symbols(symbols) {
+        let symbols = self.list.get(at + 1..end)?;
+        if self.rule.legal_symbols(symbols) {
             return Some(end);
         }
         None
     }
 
     // The term at a place, in the same way.
-    fn check_term(self, list: &[u8], at: usize) -> Option<usize>
-        requires { at ≤ length list.now }
-        ensures { Passes (decode_term self.labels self.language self.longest) list.now at result }
+    #[tactic(auto, using(crate::proofs::ReadingLaws::term_cut, crate::proofs::ReadingLaws::term_empty))]
+    fn term(&self, at: usize) -> Option<usize>
+        requires { at ≤ length self.now.list.now }
+        ensures { Passes (decode_term self.now.rule.labels self.now.rule.language self.now.rule.longest) self.now.list.now at result }
     {
-        if list.len() - at < 2 {
+        if self.list.len() - at < 2 {
             return None;
         }
-        let number = u16_at(list, at);
+        let number = u16_at(self.list, at);
         if number == 0 {
             return None;
         }
-        check_parts(at + 2, number, |place| self.check_word(list, place))
+        check_parts(at + 2, number, |place| self.word(place))
     }
 }
 
@@ -77,19 +67,14 @@ fn check_parts<F: Fn(usize) -> Option<usize>>(at: usize, number: usize, check: F
 }
 
 // Whether any bytes are a legal rule list; not is refusal 9.
-pub fn check_list(list: &[u8], labels: usize, language: usize, longest: usize) -> bool
-    requires { language ≤ last_language }
-    ensures { result ≡ is_some (decode_list labels language longest list.now) }
+pub fn check_list(list: &[u8], rule: WordRule) -> bool
+    ensures { result ≡ is_some (decode_list rule.labels rule.language rule.longest list.now) }
 {
     if list.len() < 2 {
         return false;
     }
-    let rule = WordRule {
-        labels,
-        language,
-        longest,
-    };
     let number = u16_at(list, 0);
-    let end = check_parts(2, number, |place| rule.check_term(list, place));
+    let checked = Checked { rule, list };
+    let end = check_parts(2, number, |place| checked.term(place));
     end == Some(list.len())
 }

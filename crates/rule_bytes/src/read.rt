@@ -6,6 +6,7 @@ use limits::WORD_CAPACITY;
 use search::Word;
 
 // A word, and the place after it.
+// Kept: no `Read<T>` for this, `rules::TermMet` and `rule_text::TermText`: its `value` would not say what stands beside the place.
 #[derive(Clone, Copy)]
 pub struct WordRead {
     pub word: Word,

@@ -1,25 +1,24 @@
 -- Text written entry after entry is the text of all; it has at most three bytes for each byte of the list. Assumes nothing.
-use mathlib.Core.Path.{◌≡◌, refl, sym, ap, ◌∙◌}
-use mathlib.Core.Bool.{Bool, true, false}
-use mathlib.Core.List.{List, [], ◌∷◌, ◌++◌, append_assoc, append-nil}
-use Prim.Native.Nat.{ℕ, ◌+◌, ◌*◌, ◌-◌, ◌≤◌, ◌<◌}
-use native.Mathlib.Omega.{arith}
-use native.Mathlib.Nat.{sub-zero}
-use native.Mathlib.Numerals.{add-one}
-use lib.ListN.{length, take, drop, get_or, length-append, length-drop}
-use lib.Seq.{drop-cons, get_or-take, length-take-le}
-use lib.Dec.{eqb}
-use borrow.Author.Tests.{eqb-true, eqb-false}
+use Rattle.std.proofs.Common.{◌≡◌, refl, sym, ap, ◌∙◌, Bool, true, false, List, [], ◌∷◌, ◌++◌, append_assoc, append-nil, ℕ, ◌+◌, ◌*◌, ◌-◌}
+use Rattle.std.proofs.Common.{◌≤◌, ◌<◌, arith, add-one, length, drop, get_or, length-append, length-drop, drop-cons, eqb, eqb-true}
+use Rattle.std.proofs.lemmas.Bool.{eqb-false}
+use Rattle.std.proofs.Math.Nat.{sub-zero}
 use Rattle.lists.specs.Lists.{flat_map, pick}
 use Rattle.lists.proofs.Cases.{by_test}
 use Rattle.fields.specs.Numbers.{u16_at, u16_bytes}
 use Rattle.rule_bytes.specs.ListBytes.{encode_word, encode_term}
-use Rattle.rule_bytes.specs.promises.Reading.{word_at, FitWord, FitTerm, TermAt, IsList}
+use Rattle.rule_bytes.specs.promises.Reading.{FitTerm, IsList, Ahead}
+use Rattle.rule_bytes.specs.promises.Words.{AreAhead, NextWord}
+use Rattle.rule_bytes.specs.declared.words.Words.{Words}
+use Rattle.rule_bytes.proofs.WordsLaws.{ReadWord, word_given}
+use Rattle.search.specs.Word.{symbols_in}
+use Rattle.search.specs.declared.word.ShortWord.{ShortWord}
 use Rattle.fields.specs.promises.Writing.{put}
 use Rattle.rule_text.specs.Text.{symbol_text, after, joined, dot, ampersand, line_end, word_text, term_text, list_text}
-use Rattle.fields.proofs.PutLaws.{put_nil, put_put, put_length}
+use Rattle.fields.proofs.PutLaws.{put_nil, put_put, put_length, then_one, then_put}
+use Rattle.rule_bytes.proofs.CopyLaws.{mid_put}
 use Rattle.fields.proofs.NumberLaws.{u16_size}
-use Rattle.rule_bytes.proofs.PlaceLaws.{Ahead, Entry, entry, no_more, word_room, word_next, word_ends, term_ahead, list_ahead}
+use Rattle.rule_bytes.proofs.PlaceLaws.{next_term, no_more, list_room_lem, list_ahead}
 
 -- T: the text of a list; what was written so far and the text of the rest give the text of all
 pub record TextSoFar {A : Type 0} (T : List A → List ℕ) (l rest : List A) (b out : List ℕ) (at end : ℕ) : Type 0 where
@@ -108,83 +107,79 @@ term_length (w ∷ t) =
     let first = length-append (word_text w) (after ampersand line_end t) in
     omega (arith, all, both, first, word_length w, term_length t, length-append w (flat_map encode_word t))
 
--- the next symbol of a word value
+-- the next symbol of a word
 pub word_step :
-    (len : ℕ) (symbols : List ℕ) (i : ℕ) → len ≤ length symbols → i < len
-    → symbols_text (drop i (take len symbols))
-    ≡ (symbol_text (get_or symbols i 0) ++ pick (eqb (i + 1) len) [] dot) ++ symbols_text (drop (i + 1) (take len symbols))
-word_step len symbols i h k =
-    let w : List ℕ = take len symbols in
+    (w : List ℕ) (i : ℕ) → i < length w
+    → symbols_text (drop i w)
+    ≡ (symbol_text (get_or w i 0) ++ pick (eqb (i + 1) (length w)) [] dot) ++ symbols_text (drop (i + 1) w)
+word_step w i h =
     let r : List ℕ = drop (i + 1) w in
-    let x : ℕ = get_or symbols i 0 in
-    let n : length w ≡ len = length-take-le len symbols h in
-    let m : length r ≡ len - (i + 1) = length-drop (i + 1) w ∙ ap (λ (z : ℕ). z - (i + 1)) n in
-    let d : drop i w ≡ x ∷ r = drop-cons w i 0 (omega arith) ∙ rw (get_or-take len symbols i 0 k, add-one i) in
-    let a = after_test symbol_text dot [] r (i + 1) len (λ q. omega (arith, m)) (λ q. omega (arith, m, q)) in
+    let x : ℕ = get_or w i 0 in
+    let m : length r ≡ length w - (i + 1) = length-drop (i + 1) w in
+    let d : drop i w ≡ x ∷ r = drop-cons w i 0 h ∙ rw (add-one i) in
+    let a = after_test symbol_text dot [] r (i + 1) (length w) (λ q. omega (arith, m)) (λ q. omega (arith, m, q)) in
     ap symbols_text d ∙ joined_next symbol_text dot [] x r ∙ ap (λ (z : List ℕ). (symbol_text x ++ z) ++ symbols_text r) (sym a)
 
+-- after a word's text there is room for the three bytes that follow it at most
+pub text_ends :
+    (out word : List ℕ) (at : ℕ) (new : List ℕ) (end : ℕ) → new ≡ put out at (word_text word) → end ≡ at + length (word_text word)
+    → at + 3 * length word + 3 ≤ length out → end + 3 ≤ length new
+text_ends out word at new end e k h =
+    let m : length new ≡ length out = ap length e ∙ put_length out at (word_text word) (omega (arith, word_length word)) in
+    omega (arith, word_length word, m, k)
+
+-- by these the goals of `put_entry_text` are found
+pub ruleset entry_laws = (text_ends, word_length, then_one, then_put, mid_put)
+
 -- a term's text, word by word from its bytes
-pub record TermTextSoFar (b : List ℕ) (place left : ℕ) (t : List (List ℕ)) (s o out : List ℕ) (to end : ℕ) : Type 0 where
+pub record TermTextSoFar (words : Words) (t : List (List ℕ)) (s o out : List ℕ) (to end : ℕ) : Type 0 where
   pub rest : List (List ℕ)
-  pub ahead : Ahead encode_word FitWord b place left rest s
+  pub ahead : AreAhead words rest s
   pub text : TextSoFar words_text t rest o out to end
-  pub room : end + 3 * (length b - place) ≤ length out
+  pub room : end + 3 * (length words.list.now - words.place) ≤ length out
 
-module _ {b : List ℕ} {t : List (List ℕ)} {s o : List ℕ} {to : ℕ} where
-  pub term_text_start :
-      {at number : ℕ} → TermAt b at t s → number ≡ u16_at b at → to + 3 * (length b - at) ≤ length o
-      → TermTextSoFar b (at + 2) (number - 0) t s o o to to
-  term_text_start {at} h e r = record {
-    rest = t;
-    ahead = rw (sub-zero, e) (term_ahead b at t s h);
-    text = text_start;
-    room = omega arith;
-  }
+module _ {words : Words} {t : List (List ℕ)} {s o : List ℕ} {to : ℕ} where
+  pub term_text_start : AreAhead words t s → to + 3 * (length words.list.now - words.place) ≤ length o → TermTextSoFar words t s o o to to
+  term_text_start h r = record { rest = t; ahead = h; text = text_start; room = r }
 
-  -- of `number` words the first i were written
-  module _ {place number i : ℕ} {out : List ℕ} {end : ℕ} (f : TermTextSoFar b place (number - i) t s o out to end) where
-    pub word_entry : i < number → Entry encode_word FitWord b place (number - i) f.rest s
-    word_entry h = entry _ f.ahead (omega arith)
+  module _ {out : List ℕ} {end : ℕ} (f : TermTextSoFar words t s o out to end) where
+    -- the next word
+    module _ {w : ShortWord} {new : Words} (n : NextWord words w new) where
+      read : ReadWord words w new f.rest s
+      read = word_given f.ahead n
 
-    module _ (h : i < number) where
-      -- where the next word ends
-      word_within : place + 1 + length (word_entry h).first ≤ length b
-      word_within = let n = word_entry h in word_room b place n.first (flat_map encode_word n.rest ++ s) n.bytes
-
-      pub entry_room : end + 3 * length (word_entry h).first + 3 ≤ length out
-      entry_room = omega (arith, f.room, word_within)
+      pub entry_room : end + 3 * length (symbols_in w.word) + 3 ≤ length out
+      entry_room = omega (arith, f.room, read.place, read.within)
 
       -- its text, and what follows it
       abbrev piece_text : List ℕ
-      piece_text = word_text (word_entry h).first ++ pick (eqb (i + 1) number) line_end ampersand
+      piece_text = word_text (symbols_in w.word) ++ pick (eqb new.left 0) line_end ampersand
 
       pub term_text_next :
           {out' : List ℕ} {end' : ℕ} → to ≤ length o → out' ≡ put out end piece_text → end' ≡ end + length piece_text
-          → TermTextSoFar b (word_at b place).next (number - (i + 1)) t s o out' to end'
+          → TermTextSoFar new t s o out' to end'
       term_text_next {out'} r x y =
-          let n = word_entry h in
-          let c : length n.rest + 1 ≡ number - i = omega (arith, f.ahead.number, ap length n.split) in
-          let p : length piece_text ≤ 3 * length n.first + 3 = entry_length n.first (eqb (i + 1) number) in
+          let left : length read.rest ≡ new.left = read.ahead.number in
+          let p : length piece_text ≤ 3 * length (symbols_in w.word) + 3 = entry_length (symbols_in w.word) (eqb new.left 0) in
           let l : length out' ≡ length out = ap length x ∙ put_length out end piece_text (omega (arith, entry_room)) in
-          let a : pick (eqb (i + 1) number) line_end ampersand ≡ after ampersand line_end n.rest =
-          after_test word_text ampersand line_end n.rest (i + 1) number (λ q. omega arith) (λ q. omega (arith, q)) in
-          let d : words_text f.rest ≡ piece_text ++ words_text n.rest =
-          ap words_text n.split
-          ∙ joined_next word_text ampersand line_end n.first n.rest
-          ∙ ap (λ (z : List ℕ). (word_text n.first ++ z) ++ words_text n.rest) (sym a) in
-          let after-word = flat_map encode_word n.rest ++ s in
-          let left : number - i - 1 ≡ number - (i + 1) = omega arith in
+          let a : pick (eqb new.left 0) line_end ampersand ≡ after ampersand line_end read.rest =
+          after_test word_text ampersand line_end read.rest new.left 0 (λ q. omega (arith, left)) (λ q. omega (arith, left, q)) in
+          let d : words_text f.rest ≡ piece_text ++ words_text read.rest =
+          ap words_text read.split
+          ∙ joined_next word_text ampersand line_end (symbols_in w.word) read.rest
+          ∙ ap (λ (z : List ℕ). (word_text (symbols_in w.word) ++ z) ++ words_text read.rest) (sym a) in
           record {
-            rest = n.rest;
-            ahead = rw (← left) (n.onward (word_at b place).next (word_next b place n.first after-word n.bytes));
-            text = text_next f.text n.rest piece_text r d x y;
-            room = omega (arith, f.room, l, p, y, word_ends b place n.first after-word n.bytes, word_within);
+            rest = read.rest;
+            ahead = read.ahead;
+            text = text_next f.text read.rest piece_text r d x y;
+            room = rw n.list (omega (arith, f.room, l, p, y, read.place, read.within));
           }
 
-    pub term_text_end : number ≤ i → (out ≡ put o to (term_text t)) × ((end ≡ to + length (term_text t)) × (drop place b ≡ s))
+    pub term_text_end : words.left ≡ 0
+        → (out ≡ put o to (term_text t)) × ((end ≡ to + length (term_text t)) × (drop words.place words.list.now ≡ s))
     unfolding term_text
     term_text_end z =
-        let k = no_more _ f.ahead (omega arith) in
+        let k = no_more _ f.ahead z in
         let empty = ap words_text k.0 ∙ joined_nil word_text ampersand line_end in
         let r = text_end f.text empty in
         (r.0, (r.1, k.1))
@@ -207,20 +202,14 @@ module _ {b : List ℕ} {l : List (List (List ℕ))} {o : List ℕ} where
 
   -- of `number` terms the first i were written
   module _ {place number i : ℕ} {out : List ℕ} {end : ℕ} (f : ListTextSoFar b place (number - i) l o out end) where
-    pub term_entry : i < number → Entry encode_term FitTerm b place (number - i) f.rest []
-    term_entry h = entry _ f.ahead (omega arith)
-
     module _ (h : i < number) where
-      pub term_here_at : TermAt b place (term_entry h).first (flat_map encode_term (term_entry h).rest ++ [])
-      term_here_at = record { bytes = (term_entry h).bytes; fits = (term_entry h).fits }
-
       pub list_text_next :
-          {out' : List ℕ} {end' : ℕ} (next : ℕ) → out' ≡ put out end (term_text (term_entry h).first)
-          → end' ≡ end + length (term_text (term_entry h).first)
-          → drop next b ≡ flat_map encode_term (term_entry h).rest ++ [] → ListTextSoFar b next (number - (i + 1)) l o out' end'
+          {out' : List ℕ} {end' : ℕ} (next : ℕ) → out' ≡ put out end (term_text (next_term f.ahead h).first)
+          → end' ≡ end + length (term_text (next_term f.ahead h).first)
+          → drop next b ≡ flat_map encode_term (next_term f.ahead h).rest ++ [] → ListTextSoFar b next (number - (i + 1)) l o out' end'
       unfolding flat_map encode_term
       list_text_next {out'} next x y z =
-          let n = term_entry h in
+          let n = next_term f.ahead h in
           let p = term_length n.first in
           let after-term : List ℕ = flat_map encode_term n.rest ++ [] in
           let m : length b - place ≡ length (encode_term n.first) + length after-term =
@@ -246,3 +235,6 @@ module _ {b : List ℕ} {l : List (List (List ℕ))} {o : List ℕ} where
         let k = no_more _ f.ahead (omega arith) in
         let r = text_end f.text (ap (flat_map term_text) k.0) in
         (r.0, omega (arith, r.1))
+
+-- and of `list_text`, but for those of its loop
+pub ruleset list_laws = (list_room_lem, list_text_start, list_text_end)

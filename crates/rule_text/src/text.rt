@@ -1,17 +1,15 @@
 // The text of a rule list, as permitconv prints it.
 ghost use Rattle.std.specs.Prelude.{◌≡◌, List, ◌++◌, [], ℕ, ◌+◌, ◌*◌, ◌-◌, ◌≤◌, ◌<◌, length, drop};
 ghost use Rattle.lists.specs.Lists.{pick};
-ghost use Rattle.limits.specs.Limits.{word_capacity};
-ghost use Rattle.search.specs.Word.{symbols_in};
 ghost use Rattle.rule_bytes.specs.promises.Reading.{TermAt, SomeTerm, IsList, SomeList};
 ghost use Rattle.fields.specs.promises.Writing.{put};
 ghost use Rattle.rule_text.specs.Text.{hex_digit, symbol_text, word_text, term_text, list_text, dot, ampersand, line_end};
 
 use fields::u16_at;
-use rule_bytes::read_word;
-use search::Word;
+use rule_bytes::Words;
 
-// Kept: std prints {:02X} to a writer or a String; these digits go to a place of a lent slice, and there is no heap here.
+// Kept: tried `write!` of {:02X} into the slice: no clause of std says what it puts there or that it succeeds; the kit's hex is lower-case.
+#[tactic(auto, unfolding(crate::specs::Text::hex_digit))]
 fn hex_digit(d: u8) -> u8
     requires { d < 16 }
     ensures { result ≡ hex_digit d }
@@ -23,6 +21,7 @@ fn hex_digit(d: u8) -> u8
 }
 
 // A symbol, and a dot unless it is the last.
+#[tactic(auto, using(fields::proofs::PutLaws::put_two, fields::proofs::PutLaws::put_three), unfolding(crate::specs::Text::symbol_text))]
 fn put_symbol_text(out: &mut [u8], at: usize, s: u8, last: bool) -> usize
     requires { at + 3 ≤ length out.old }
     ensures bytes { out.new ≡ put out.old at (symbol_text s ++ pick last [] dot) }
@@ -37,26 +36,27 @@ fn put_symbol_text(out: &mut [u8], at: usize, s: u8, last: bool) -> usize
     at + 3
 }
 
-fn put_word_text(out: &mut [u8], at: usize, w: Word) -> usize
-    requires { (w.len ≤ word_capacity) × (at + 3 * w.len ≤ length out.old) }
-    ensures bytes { out.new ≡ put out.old at (word_text (symbols_in w)) }
-    ensures place { result ≡ at + length (word_text (symbols_in w)) }
+// A word's symbols, one after another.
+fn put_word_text(out: &mut [u8], at: usize, word: &[u8]) -> usize
+    requires { at + 3 * length word.now ≤ length out.old }
+    ensures bytes { out.new ≡ put out.old at (word_text word.now) }
+    ensures place { result ≡ at + length (word_text word.now) }
 {
-    let len = w.len;
     let mut end = at;
-    for i in 0..len {
-        end = put_symbol_text(out, end, w.symbols[i], i + 1 == len);
+    for (i, &s) in word.iter().enumerate() {
+        end = put_symbol_text(out, end, s, i + 1 == word.len());
     }
     end
 }
 
 // A word of a term, and what follows it.
-fn put_entry_text(out: &mut [u8], at: usize, w: Word, last: bool) -> usize
-    requires { (w.len ≤ word_capacity) × (at + 3 * w.len + 3 ≤ length out.old) }
-    ensures bytes { out.new ≡ put out.old at (word_text (symbols_in w) ++ pick last line_end ampersand) }
-    ensures place { result ≡ at + length (word_text (symbols_in w) ++ pick last line_end ampersand) }
+#[tactic(auto, using(crate::proofs::TextLaws::entry_laws))]
+fn put_entry_text(out: &mut [u8], at: usize, word: &[u8], last: bool) -> usize
+    requires { at + 3 * length word.now + 3 ≤ length out.old }
+    ensures bytes { out.new ≡ put out.old at (word_text word.now ++ pick last line_end ampersand) }
+    ensures place { result ≡ at + length (word_text word.now ++ pick last line_end ampersand) }
 {
-    let end = put_word_text(out, at, w);
+    let end = put_word_text(out, at, word);
     if last {
         out[end] = b'\n';
         return end + 1;
@@ -66,6 +66,7 @@ fn put_entry_text(out: &mut [u8], at: usize, w: Word, last: bool) -> usize
 }
 
 // The place after a term, and the place after its text.
+// Kept: apart from `rule_bytes::WordRead` as said there.
 #[derive(Clone, Copy)]
 pub struct TermText {
     pub next: usize,
@@ -73,24 +74,29 @@ pub struct TermText {
 }
 
 // The line of the term at a place of a checked list, written from place `to` on. Three bytes for each byte of the list are enough.
+// Kept: list and place stand apart, as at `rules::meets_term`.
 pub fn put_term_text(list: &[u8], at: usize, out: &mut [u8], to: usize) -> TermText
     requires { SomeTerm list.now at × (to + 3 * (length list.now - at) ≤ length out.old) }
     ensures { (t : List (List ℕ)) (s : List ℕ) → TermAt list.now at t s
         → (out.new ≡ put out.old to (term_text t))
         × ((result.end ≡ to + length (term_text t)) × (drop result.next list.now ≡ s)) }
 {
-    let number = u16_at(list, at);
-    let mut place = at + 2;
+    let mut words = Words::of_term(list, at);
     let mut end = to;
-    for i in 0..number {
-        let r = read_word(list, place);
-        end = put_entry_text(out, end, r.word, i + 1 == number);
-        place = r.next;
+    // Kept: no `for`, as in `rules::meets_term`.
+    while let Some(w) = words.next() {
+        let word = &w.word.symbols[..w.word.len];
+        end = put_entry_text(out, end, word, words.left == 0);
     }
-    TermText { next: place, end }
+    TermText {
+        next: words.place,
+        end,
+    }
 }
 
 // The text of a checked list, from the first byte of `out` on, and its length.
+// Kept: a checked list is no type, as at `rules::meets_list`.
+#[tactic(auto, using(crate::proofs::TextLaws::list_laws))]
 pub fn list_text(list: &[u8], out: &mut [u8]) -> usize
     requires { SomeList list.now × (3 * length list.now ≤ length out.old) }
     ensures { (l : List (List (List ℕ))) → IsList list.now l
@@ -99,6 +105,7 @@ pub fn list_text(list: &[u8], out: &mut [u8]) -> usize
     let number = u16_at(list, 0);
     let mut place = 2;
     let mut end = 0;
+    // Kept: the place goes on by hand, as in `rules::meets_list`.
     for _ in 0..number {
         let r = put_term_text(list, place, out, end);
         place = r.next;

@@ -1,14 +1,6 @@
 -- Lists and their bytes for a matter: legal words are its words, the mined list has bytes, and permit on them gives back the permit table.
-use Rattle.std.specs.Prelude.{Ok}
-use mathlib.Core.Path.{◌≡◌, refl, sym, ap, ◌∙◌}
-use mathlib.Core.Bool.{true}
-use mathlib.Core.List.{List, Memᴰ}
-use mathlib.Core.Logic.{◌↔◌}
-use Prim.Native.Nat.{ℕ, ◌≤◌, ◌<◌}
-use native.Mathlib.Omega.{arith}
-use lib.ListN.{length}
-use lib.Dec.{leb}
-use borrow.Author.Tests.{le-leb, leb-true}
+use Rattle.std.proofs.Common.{Ok, ◌≡◌, refl, sym, ap, ◌∙◌, true, List, ◌↔◌, ℕ, ◌≤◌, ◌<◌, arith, length, leb, le-leb, leb-true}
+use mathlib.Core.List.{Memᴰ}
 use Rattle.lists.proofs.Cases.{and_left, and_right}
 use Rattle.lists.proofs.ListLaws.{all_in, all_of_lem, map_out}
 use Rattle.lists.proofs.OrderLaws.{length_map}

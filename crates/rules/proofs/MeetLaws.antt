@@ -1,60 +1,49 @@
 -- A pair against the terms of a list, word by word: what was read so far and what is ahead give the whole. Assumes nothing.
-use mathlib.Core.Path.{◌≡◌, refl, sym, ap, ◌∙◌}
-use mathlib.Core.Bool.{Bool, true, false, ◌&&◌}
-use mathlib.Core.List.{List, [], ◌++◌}
-use Prim.Native.Nat.{ℕ, ◌+◌, ◌-◌, ◌<◌, ◌≤◌}
-use native.Mathlib.Omega.{arith}
-use native.Mathlib.Nat.{sub-zero}
-use lib.ListN.{drop}
+use Rattle.std.proofs.Common.{◌≡◌, refl, sym, ap, ◌∙◌, Bool, true, false, ◌&&◌, List, [], ◌++◌, ℕ, ◌+◌, ◌-◌, ◌<◌, ◌≤◌, arith, drop}
+use Rattle.std.proofs.Math.Nat.{sub-zero}
+use Rattle.std.proofs.Math.Bool.{and-true, and_assoc}
 use Rattle.lists.specs.Lists.{all_of, any_of, flat_map}
 use Rattle.fields.specs.Numbers.{u16_at}
-use Rattle.rule_bytes.specs.ListBytes.{encode_word, encode_term}
-use Rattle.rule_bytes.specs.promises.Reading.{word_at, FitWord, FitTerm, TermAt, IsList}
-use Rattle.rule_bytes.proofs.PlaceLaws.{Ahead, Entry, entry, no_more, word_next, term_ahead, list_ahead}
-
-and_true : (b : Bool) → (b && true) ≡ b
-and_true true = refl
-and_true false = refl
-
-and_swap : (a b c : Bool) → (a && (b && c)) ≡ ((a && b) && c)
-and_swap true b c = refl
-and_swap false b c = refl
+use Rattle.rule_bytes.specs.ListBytes.{encode_term}
+use Rattle.rule_bytes.specs.promises.Reading.{FitTerm, IsList, Ahead}
+use Rattle.rule_bytes.specs.promises.Words.{AreAhead, NextWord}
+use Rattle.rule_bytes.specs.declared.words.Words.{Words}
+use Rattle.rule_bytes.proofs.PlaceLaws.{next_term, no_more, list_room_lem, list_ahead}
+use Rattle.rule_bytes.proofs.WordsLaws.{word_given}
+use Rattle.search.specs.Word.{symbols_in}
+use Rattle.search.specs.declared.word.ShortWord.{ShortWord}
 
 -- a term of which some words were read: p holds of all of them, or `met` is false
-pub record TermSoFar (p : List ℕ → Bool) (b : List ℕ) (place left : ℕ) (met : Bool) (t : List (List ℕ)) (s : List ℕ) : Type 0 where
+pub record TermSoFar (p : List ℕ → Bool) (words : Words) (met : Bool) (t : List (List ℕ)) (s : List ℕ) : Type 0 where
   pub rest : List (List ℕ)
-  pub ahead : Ahead encode_word FitWord b place left rest s
+  pub ahead : AreAhead words rest s
   pub same : all_of p t ≡ (met && all_of p rest)
 
-module _ (p : List ℕ → Bool) (b : List ℕ) (t : List (List ℕ)) (s : List ℕ) where
-  pub meet_start : (at left : ℕ) → TermAt b at t s → left ≡ u16_at b at → TermSoFar p b (at + 2) left true t s
-  meet_start at left h e = record { rest = t; ahead = rw e (term_ahead b at t s h); same = refl }
+module _ {p : List ℕ → Bool} {t : List (List ℕ)} {s : List ℕ} {words : Words} where
+  pub meet_start : AreAhead words t s → TermSoFar p words true t s
+  meet_start h = record { rest = t; ahead = h; same = refl }
 
-  module _ (place left : ℕ) (met : Bool) (f : TermSoFar p b place left met t s) where
-    pub meet_entry : 0 < left → Entry encode_word FitWord b place left f.rest s
-    meet_entry h = entry _ f.ahead h
-
-    pub meet_next :
-        (h : 0 < left) (more : Bool) → more ≡ (met && p (meet_entry h).first)
-        → TermSoFar p b (word_at b place).next (left - 1) more t s
+  module _ {met : Bool} (f : TermSoFar p words met t s) where
+    pub meet_next : {w : ShortWord} {new : Words} → NextWord words w new → (more : Bool) → more ≡ (met && p (symbols_in w.word))
+        → TermSoFar p new more t s
     unfolding all_of
-    meet_next h more e =
-        let n = meet_entry h in
+    meet_next {w} n more e =
+        let g = word_given f.ahead n in
         record {
-          rest = n.rest;
-          ahead = n.onward (word_at b place).next (word_next b place n.first (flat_map encode_word n.rest ++ s) n.bytes);
+          rest = g.rest;
+          ahead = g.ahead;
           same =
               f.same
-              ∙ ap (λ (w : List (List ℕ)). met && all_of p w) n.split
-              ∙ and_swap met (p n.first) (all_of p n.rest)
-              ∙ ap (λ (q : Bool). q && all_of p n.rest) (sym e);
+              ∙ ap (λ (w : List (List ℕ)). met && all_of p w) g.split
+              ∙ sym (and_assoc met (p (symbols_in w.word)) (all_of p g.rest))
+              ∙ ap (λ (q : Bool). q && all_of p g.rest) (sym e);
         }
 
-    pub meet_end : left ≡ 0 → (met ≡ all_of p t) × (drop place b ≡ s)
+    pub meet_end : {new : Words} → (words.left ≡ 0) × (new ≡ words) → (met ≡ all_of p t) × (drop new.place new.list.now ≡ s)
     unfolding all_of
     meet_end z =
-        let k = no_more _ f.ahead z in
-        (sym (f.same ∙ ap (λ (w : List (List ℕ)). met && all_of p w) k.0 ∙ and_true met), k.1)
+        let k = no_more _ f.ahead z.0 in
+        rw z.1 (sym (f.same ∙ ap (λ (w : List (List ℕ)). met && all_of p w) k.0 ∙ and-true met), k.1)
 
 -- a list of which no term so far passed q
 pub record ListSoFar (q : List (List ℕ) → Bool) (b : List ℕ) (place left : ℕ) (l : List (List (List ℕ))) : Type 0 where
@@ -68,26 +57,23 @@ module _ {q : List (List ℕ) → Bool} {b : List ℕ} {l : List (List (List ℕ
 
   -- of `number` terms the first i were read
   module _ {place number i : ℕ} (f : ListSoFar q b place (number - i) l) where
-    pub list_entry : i < number → Entry encode_term FitTerm b place (number - i) f.rest []
-    list_entry h = entry _ f.ahead (omega arith)
-
     module _ (h : i < number) where
-      pub list_term : TermAt b place (list_entry h).first (flat_map encode_term (list_entry h).rest ++ [])
-      list_term = record { bytes = (list_entry h).bytes; fits = (list_entry h).fits }
-
       pub list_next :
-          (next : ℕ) → drop next b ≡ flat_map encode_term (list_entry h).rest ++ [] → q (list_entry h).first ≡ false
+          (next : ℕ) → drop next b ≡ flat_map encode_term (next_term f.ahead h).rest ++ [] → q (next_term f.ahead h).first ≡ false
           → ListSoFar q b next (number - (i + 1)) l
       unfolding any_of
       list_next next k e =
-          let n = list_entry h in
+          let n = next_term f.ahead h in
           let left : number - i - 1 ≡ number - (i + 1) = omega arith in
           record { rest = n.rest; ahead = rw (← left) (n.onward next k); same = f.same ∙ ap (any_of q) n.split ∙ rw e }
 
-      pub list_yes : q (list_entry h).first ≡ true → any_of q l ≡ true
+      pub list_yes : q (next_term f.ahead h).first ≡ true → any_of q l ≡ true
       unfolding any_of
-      list_yes e = f.same ∙ ap (any_of q) (list_entry h).split ∙ rw e
+      list_yes e = f.same ∙ ap (any_of q) (next_term f.ahead h).split ∙ rw e
 
     pub list_no : number ≤ i → any_of q l ≡ false
     unfolding any_of
     list_no z = f.same ∙ ap (any_of q) (no_more _ f.ahead (omega arith)).0
+
+-- and of `meets_list`, but for those of its loop
+pub ruleset list_laws = (list_room_lem, list_start, list_no)

@@ -1,10 +1,11 @@
 -- The last two steps: a candidate leads on where it is neither visited nor the target and has a last step. Assumes nothing.
-use Rattle.std.proofs.Common.{◌≡◌, ℕ, zero, suc, ◌+◌, ◌/◌, ◌%◌, ◌^◌, ◌<◌, true, false, not, ◌&&◌, eqb}
-use Rattle.std.proofs.Common.{List, [], ◌∷◌, get_or, set, replicate, sym, refl, ap, ◌∙◌, mod-lt, arith, lit<, length-set, get_or-set_same}
-use mathlib.Core.Logic.{by_cases}
-use mathlib.Core.Option.{none, some}
-use native.Mathlib.Decide.{ℕ_discrete}
-use lib.Bits.{bit_or, bit_xor, or_shr, or_mod, xor_shr, xor_mod}
+use Rattle.std.proofs.Common.{◌≡◌, ℕ, zero, suc, ◌+◌, ◌/◌, ◌%◌, ◌^◌, ◌<◌, true, false, not, ◌&&◌}
+use Rattle.std.proofs.Common.{eqb, List, [], ◌∷◌, get_or, set, replicate, sym, refl, ap, ◌∙◌, mod-lt}
+use Rattle.std.proofs.Common.{arith, lit<, length-set, get_or-set_same, bit_or, bit_xor, Ok}
+use Rattle.std.proofs.Math.Logic.{by_cases}
+use Rattle.std.proofs.Math.Option.{none, some}
+use Rattle.std.proofs.Math.Decide.{ℕ_discrete}
+use Rattle.std.proofs.lemmas.Nat.{or_shr, or_mod, xor_shr, xor_mod}
 use Rattle.limits.specs.Limits.{most_parties}
 use Rattle.lists.proofs.Cases.{by_test, both, and_false, and_left, and_right}
 use Rattle.masks.specs.promises.Mask.{bit_at, test_bit, with_bit}
@@ -17,7 +18,6 @@ use Rattle.search.specs.promises.Search.{place_on, place_at, places_from, search
 use Rattle.search.specs.promises.Walk.{NoStep, StepsFirst}
 use Rattle.search.specs.promises.Last.{without, last_place, Ends}
 use Rattle.search.specs.promises.Onward.{search_on}
-use Rattle.std.specs.Prelude.{Ok}
 use Rattle.search.specs.declared.path.Path.{Path}
 use Rattle.search.specs.declared.search.Search.{Search}
 use Rattle.search.proofs.SearchLaws.{through, search_last, search_none, search_hit, places_two, path_last, path_onto}

@@ -1,6 +1,7 @@
 -- The search for a pair is the word test and the least path: fixed places lead where their symbols do. Assumes nothing.
-use Rattle.std.proofs.Common.{◌≡◌, ℕ, zero, suc, ◌-◌, ◌<◌, ◌≤◌, get_or, Bool, false, ◌||◌, eqb, List, [], ◌∷◌, map, length, sym, refl, ap, ◌∙◌, arith}
-use mathlib.Core.Option.{none, some}
+use Rattle.std.proofs.Common.{◌≡◌, ℕ, zero, suc, ◌-◌, ◌<◌, ◌≤◌, get_or, Bool, false, ◌||◌}
+use Rattle.std.proofs.Common.{eqb, List, [], ◌∷◌, map, length, sym, refl, ap, ◌∙◌, arith}
+use Rattle.std.proofs.Math.Option.{none, some}
 use Rattle.lists.specs.Lists.{any_of, flat_map}
 use Rattle.masks.specs.promises.Mask.{test_bit, with_bit}
 use Rattle.masks.specs.declared.Table.{Table}

@@ -1,12 +1,11 @@
 -- A path has another party at each place: where fewer parties are left than places it has none. By induction over the places, since each
 -- step takes one of the parties left. Assumes nothing.
-use Rattle.std.proofs.Common.{◌≡◌, ℕ, zero, suc, ◌+◌, ◌-◌, ◌/◌, ◌%◌, ◌^◌, ◌<◌, ◌≤◌, Bool, true, false, not, ◌&&◌}
-use Rattle.std.proofs.Common.{List, [], ◌∷◌, length, drop, sym, refl, ap, ◌∙◌, div-one, arith, length-drop, shr-shr, eqb-true}
-use mathlib.Core.Logic.{by_cases}
-use mathlib.Core.Option.{none}
-use native.Mathlib.Decide.{ℕ_discrete}
-use lib.Bits.{bit_or}
-use lib.Count.{ones, ones_step}
+use Rattle.std.proofs.Common.{◌≡◌, ℕ, zero, suc, ◌+◌, ◌-◌, ◌/◌, ◌%◌, ◌^◌, ◌<◌, ◌≤◌, Bool, true, false, not, ◌&&◌, List, [], ◌∷◌}
+use Rattle.std.proofs.Common.{length, drop, sym, refl, ap, ◌∙◌, div-one, arith, length-drop, shr-shr, eqb-true, bit_or}
+use Rattle.std.proofs.Math.Logic.{by_cases}
+use Rattle.std.proofs.Math.Option.{none}
+use Rattle.std.proofs.Math.Decide.{ℕ_discrete}
+use Rattle.std.specs.Int.Count.{ones, ones_step}
 use Rattle.lists.specs.Lists.{filter_by, range, up_from}
 use Rattle.lists.proofs.Cases.{by_test, both, and_false, and_both, and_left, and_right}
 use Rattle.lists.proofs.ListLaws.{range_in}
@@ -16,10 +15,9 @@ use Rattle.masks.specs.declared.Table.{Table}
 use Rattle.masks.proofs.BitLaws.{test_with_same, test_with_other, test_or_left, test_or_right}
 use Rattle.rebac.specs.promises.Forms.{Place}
 use Rattle.search.specs.Word.{symbols_in}
+use Rattle.search.specs.promises.WordValues.{Short}
 use Rattle.search.specs.promises.Search.{places_from, search_from}
 use Rattle.search.specs.promises.Walk.{Within, Covers}
-use Rattle.search.specs.promises.Onward.{CoversFrom}
-use Rattle.search.specs.declared.search.Search.{Search}
 use Rattle.search.specs.declared.word.Word.{Word}
 use Rattle.search.proofs.SearchLaws.{search_none, through_visited, through_lost, symbols_length, short_fits}
 use Rattle.search.proofs.PairSearchLaws.{form_length}
@@ -99,18 +97,17 @@ module _ (n : ℕ) (t : Table) (target visited : ℕ) where
   crowded_none xs all l crowded v h e more p o = crowded v h more p o (omega (arith, count_ones n all more))
 
 -- where the walk backwards stands: no party outside the mask has a path from here, nor any where those of the masks so far are too few
-pub record Walked (s : Search) (from visited mask all at : ℕ) : Type 0 where
+pub record Walked (w : Word) (fixed from n target visited : ℕ) (t : Table) (mask all at : ℕ) : Type 0 where
   pub after : from ≤ at
-  pub covers : CoversFrom s at visited mask
-  pub crowded : Crowded s.graph.parties s.graph.table s.target (places_from s.form.word.word s.form.fixed at) visited all
+  pub covers : Covers n t target (places_from w fixed at) visited mask n
+  pub crowded : Crowded n t target (places_from w fixed at) visited all
 
 -- back at the first place: fewer ones than places
-pub walked_short : {s : Search} {from visited mask all at : ℕ} → Walked s from visited mask all at → at ≡ from
-    → ones all < s.form.word.word.len - from → CoversFrom s from visited 0
-walked_short {s} {from} {visited} {mask} {all} {at} h e l =
-    let w : Word = s.form.word.word in
-    let k : length (places_from w s.form.fixed from) ≡ w.len - from =
-    form_length (s.form.fixed - from) (drop from (symbols_in w)) ∙ length-drop from (symbols_in w)
-    ∙ ap (λ (x : ℕ). x - from) (symbols_length w (short_fits s.form.word.short)) in
-    crowded_none s.graph.parties s.graph.table s.target visited (places_from w s.form.fixed from) all (omega (arith, k, l))
-    (rw e at h.crowded)
+pub walked_short : {w : Word} {fixed from n target visited : ℕ} {t : Table} {mask all at : ℕ}
+    → Walked w fixed from n target visited t mask all at → Short w → at ≡ from → ones all < w.len - from
+    → Covers n t target (places_from w fixed from) visited 0 n
+walked_short {w} {fixed} {from} {n} {target} {visited} {t} {mask} {all} {at} h s e l =
+    let k : length (places_from w fixed from) ≡ w.len - from =
+    form_length (fixed - from) (drop from (symbols_in w)) ∙ length-drop from (symbols_in w)
+    ∙ ap (λ (x : ℕ). x - from) (symbols_length w (short_fits s)) in
+    crowded_none n t target visited (places_from w fixed from) all (omega (arith, k, l)) (rw e at h.crowded)

@@ -1,11 +1,12 @@
 -- The search's definition turn by turn: the last step goes to the target itself, and before it the candidates are tried in ascending order.
 -- Assumes nothing.
-use Rattle.std.proofs.Common.{◌≡◌, ℕ, zero, suc, ◌+◌, ◌-◌, ◌<◌, ◌≤◌, Bool, true, false, not, ◌&&◌, ◌||◌}
-use Rattle.std.proofs.Common.{eqb, ltb, List, [], ◌∷◌, length, get_or, drop, set, sym, refl, ap, ◌∙◌, add-one}
-use Rattle.std.proofs.Common.{arith, length-set, drop_of_length-le, length-take, drop-cons, get_or-set_other, get_or-take, get_or-set_same, ltb-false, ltb-true, eq-eqb, ne_eqb}
-use mathlib.Core.Logic.{by_cases}
-use mathlib.Core.Option.{Option, none, some}
-use native.Mathlib.Decide.{ℕ_discrete}
+use Rattle.std.proofs.Common.{◌≡◌, ℕ, zero, suc, ◌+◌, ◌-◌, ◌<◌, ◌≤◌, Bool, true, false, not, ◌&&◌, ◌||◌, eqb, ltb}
+use Rattle.std.proofs.Common.{List, [], ◌∷◌, length, get_or, drop, set, sym, refl, ap, ◌∙◌, add-one, arith, length-set}
+use Rattle.std.proofs.Common.{drop_of_length-le, length-take, drop-cons, get_or-set_other, get_or-take}
+use Rattle.std.proofs.Common.{get_or-set_same, ltb-false, ltb-true, eq-eqb, ne_eqb, Result, Ok, Err, is_ok}
+use Rattle.std.proofs.Math.Logic.{by_cases}
+use Rattle.std.proofs.Math.Option.{Option, none, some}
+use Rattle.std.proofs.Math.Decide.{ℕ_discrete}
 use Rattle.lists.specs.Lists.{filter_by, member, range, up_from}
 use Rattle.lists.specs.Order.{first_element}
 use Rattle.lists.proofs.Cases.{by_test, both}
@@ -27,7 +28,6 @@ use Rattle.search.specs.promises.Search.{PathAs, FoundAs}
 use Rattle.search.specs.declared.word.Word.{Word}
 use Rattle.search.specs.declared.path.NoPath.{NoPath}
 use Rattle.search.specs.declared.path.Path.{Path}
-use Rattle.std.specs.Prelude.{Result, Ok, Err, is_ok}
 
 -- a mask stands for the list of the parties that it has
 visited_list : ℕ → ℕ → List ℕ

@@ -1,11 +1,12 @@
 -- The loop over a party's candidates: where it stands, and what one candidate adds. Assumes nothing.
-use Rattle.std.proofs.Common.{◌≡◌, ℕ, ◌+◌, ◌<◌, ◌≤◌, true, false, List, ◌∷◌, set, refl, ap, ◌∙◌, arith}
-use Rattle.std.specs.Prelude.{Result, Ok, Err}
-use mathlib.Core.Option.{Option, none}
+use Rattle.std.proofs.Common.{◌≡◌, ℕ, ◌+◌, ◌<◌, ◌≤◌, Bool, true, false, not, List, ◌∷◌}
+use Rattle.std.proofs.Common.{set, sym, refl, ap, ◌∙◌, arith, Result, Ok, Err, Option as Maybe, Some, None, MatchOption, IfSome}
+use Rattle.std.proofs.lemmas.Bool.{not-true}
+use Rattle.std.proofs.Math.Option.{Option, none}
 use Rattle.lists.proofs.Cases.{both}
 use Rattle.masks.specs.promises.Mask.{test_bit, with_bit}
 use Rattle.masks.specs.promises.Table.{mask_at}
-use Rattle.masks.proofs.BitLaws.{ones_bit}
+use Rattle.masks.proofs.BitLaws.{test_with_other}
 use Rattle.rebac.specs.promises.Forms.{Place}
 use Rattle.rebac.specs.promises.Marked.{prepend}
 use Rattle.search.specs.promises.Search.{place_on, place_at, places_from, search_from, FoundAs}
@@ -31,27 +32,28 @@ leads s at u visited = through s.graph.parties s.graph.table visited u s.target 
 abbrev leads_from : Search → ℕ → ℕ → ℕ → ℕ → Option (List ℕ)
 leads_from s at u visited = onwards s.graph.parties s.graph.table visited u s.target (here s at) (after s at)
 
--- where the loop stands: the candidates before v lead nowhere, and a party that `onward` lacks has no path along the places after this one
-pub record Turn (s : Search) (at u visited onward v : ℕ) : Type 0 where
-  pub covers : CoversFrom s (at + 1) visited onward
+-- where the loop stands: the candidates before v lead nowhere, and once walks were looked at, a party that `onward` lacks has no path along
+-- the places after this one
+pub record Turn (s : Search) (at u visited : ℕ) (onward : Maybe ℕ) (v : ℕ) : Type 0 where
+  pub covers : IfSome onward (CoversFrom s (at + 1) visited)
   pub rest : search_on s at u visited ≡ leads_from s at u visited v
 
--- before the first candidate every party is in the mask
-pub turn_start : {s : Search} {at u visited : ℕ} → SearchQuery s at u visited → Turn s at u visited 4294967295 0
+-- before the first candidate
+pub turn_start : {s : Search} {at u visited : ℕ} → SearchQuery s at u visited → Turn s at u visited None 0
 turn_start {s} {at} {u} {visited} p = record {
-  covers = λ v h e. both (ones_bit 32 v (omega (arith, s.graph.within))) e;
+  covers = tt;
   rest = ap (search_from s.graph.parties s.graph.table visited u s.target)
       (places_cons s.form.word.word s.form.fixed at (omega (arith, p.places)) (short_fits s.form.word.short))
       ∙ search_start s.graph.parties s.graph.table visited u s.target (here s at) (after s at);
 }
 
-module _ {s : Search} {at u visited onward v : ℕ} (h : Turn s at u visited onward v) where
+module _ {s : Search} {at u visited v : ℕ} {onward : Maybe ℕ} (h : Turn s at u visited onward v) where
   -- after the last candidate
   pub turn_end : s.graph.parties ≤ v → search_on s at u visited ≡ none
   turn_end l = h.rest ∙ onwards_end s.graph.parties s.graph.table visited u s.target (here s at) (after s at) v l
 
   -- a candidate that leads nowhere is passed
-  pub turn_skip : v < s.graph.parties → {more : ℕ} → CoversFrom s (at + 1) visited more → leads s at u visited v ≡ none
+  pub turn_skip : v < s.graph.parties → {more : Maybe ℕ} → IfSome more (CoversFrom s (at + 1) visited) → leads s at u visited v ≡ none
       → Turn s at u visited more (v + 1)
   turn_skip l g e = record {
     covers = g;
@@ -65,9 +67,16 @@ module _ {s : Search} {at u visited onward v : ℕ} (h : Turn s at u visited onw
   pub turn_barred : place_on (here s at) (mask_at s.graph.table u v) ≡ false → leads s at u visited v ≡ none
   turn_barred = through_not s.graph.parties s.graph.table visited u s.target (here s at) (after s at) v
 
-  pub turn_lost : v < s.graph.parties → test_bit onward v ≡ false → test_bit visited v ≡ false → leads s at u visited v ≡ none
-  turn_lost l e off =
-      through_lost s.graph.parties s.graph.table visited u s.target (here s at) (after s at) v (h.covers v l e visited (λ d k. k) off)
+  pub turn_lost : v < s.graph.parties → {r : Bool} → MatchOption onward (r ≡ false) (λ mask. r ≡ not (test_bit mask v)) → r ≡ true
+      → test_bit visited v ≡ false → leads s at u visited v ≡ none
+  turn_lost l {r} f y off = lost onward h.covers f
+    where
+      lost : (o : Maybe ℕ) → IfSome o (CoversFrom s (at + 1) visited) → MatchOption o (r ≡ false) (λ mask. r ≡ not (test_bit mask v))
+          → leads s at u visited v ≡ none
+      lost None g e = both y e
+      lost (Some mask) g e =
+          through_lost s.graph.parties s.graph.table visited u s.target (here s at) (after s at) v
+          (g v l (not-true (test_bit mask v) (sym e ∙ y)) visited (λ d k. k) off)
 
 -- the target leads nowhere, while places are left
 pub target_nowhere : {s : Search} {at u visited : ℕ} → SearchQuery s at u visited → leads s at u visited s.target ≡ none
@@ -76,7 +85,7 @@ target_nowhere {s} {at} {u} {visited} p =
     (places_cons s.form.word.word s.form.fixed (at + 1) (omega (arith, p.places)) (short_fits s.form.word.short)) s.end
 
 -- a candidate that was tried: not visited, it may stand at the place, and f was found beyond it
-pub record Tried (s : Search) (at u visited onward v : ℕ) (f : Result Path NoPath) : Type 0 where
+pub record Tried (s : Search) (at u visited : ℕ) (onward : Maybe ℕ) (v : ℕ) (f : Result Path NoPath) : Type 0 where
   pub query : SearchQuery s at u visited
   pub turn : Turn s at u visited onward v
   pub party : v < s.graph.parties
@@ -84,11 +93,30 @@ pub record Tried (s : Search) (at u visited onward v : ℕ) (f : Result Path NoP
   pub on : place_on (here s at) (mask_at s.graph.table u v) ≡ true
   pub beyond : FoundAs (at + 1) (with_bit visited v) (search_on s (at + 1) v (with_bit visited v)) f
 
+-- out of what the code tests and the calls give, where `more` are the parties visited with it
+pub tried : {s : Search} {at u visited v more : ℕ} {onward : Maybe ℕ} {f : Result Path NoPath} {has allowed : Bool}
+    → SearchQuery s at u visited → Turn s at u visited onward v → v < s.graph.parties → has ≡ test_bit visited v → has ≡ false
+    → allowed ≡ place_on (here s at) (mask_at s.graph.table u v) → allowed ≡ true → more ≡ with_bit visited v
+    → FoundAs (at + 1) more (search_on s (at + 1) v more) f → Tried s at u visited onward v f
+tried p h l d off e y m g = record {
+  query = p;
+  turn = h;
+  party = l;
+  off = sym d ∙ off;
+  on = sym e ∙ y;
+  beyond = rw (← m) g;
+}
+
+-- the target is not visited by a step to another party
+pub target_open : (visited v target : ℕ) {more : ℕ} → more ≡ with_bit visited v → (v ≡ target → ⊥) → test_bit visited target ≡ false
+    → test_bit more target ≡ false
+target_open visited v target m d o = rw m (test_with_other visited v target (λ q. d (sym q)) ∙ o)
+
 -- the path with the candidate written in front of the parties beyond it
 abbrev pub put : Path → ℕ → ℕ → Path
 put p at v = record { visited = p.visited; parties = set p.parties (at + 1) v }
 
-module _ {s : Search} {at u visited onward v : ℕ} {f : Result Path NoPath} (c : Tried s at u visited onward v f) where
+module _ {s : Search} {at u visited v : ℕ} {onward : Maybe ℕ} {f : Result Path NoPath} (c : Tried s at u visited onward v f) where
   is_onward : leads s at u visited v ≡ prepend v (search_on s (at + 1) v (with_bit visited v))
   is_onward = through_on s.graph.parties s.graph.table visited u s.target (here s at) (after s at) v c.off c.on
 

@@ -1,9 +1,10 @@
 -- Every word of at most 31 symbols has a value: its symbols, and zeros after them. Assumes nothing.
 use Rattle.std.proofs.Common.{◌≡◌, ℕ, ◌+◌, ◌-◌, ◌<◌, ◌≤◌, List, length, get_or, replicate, refl, arith, length-append, get_or-append-add}
-use mathlib.Core.Logic.{by_cases}
-use native.Mathlib.Decide.{dec_lt}
-use lib.ListN.{length-replicate, get_or-append}
-use lib.Seq.{take-append_seam}
+use Rattle.std.proofs.Math.Logic.{by_cases}
+use Rattle.std.proofs.Math.Decide.{dec_lt}
+use Rattle.std.proofs.lemmas.List.{length-replicate}
+use Rattle.std.proofs.Math.ListN.{get_or-append}
+use Rattle.std.proofs.Math.Seq.{take-append_seam}
 use Rattle.masks.proofs.TableLaws.{get_or_zeros}
 use Rattle.search.specs.Word.{symbols_in, Carries}
 use Rattle.search.specs.promises.WordValues.{word_of, IsValue}

@@ -1,11 +1,10 @@
 -- Backwards over the places: a party whose candidates each fail the place's test, or have no path onward, has no path. Assumes nothing.
-use Rattle.std.proofs.Common.{◌≡◌, ◌≢◌, ℕ, ◌+◌, ◌*◌, ◌%◌, ◌^◌, ◌<◌, ◌≤◌, true, false, eqb}
-use Rattle.std.proofs.Common.{List, [], ◌∷◌, get_or, sym, refl, ap, ◌∙◌, arith, ne_eqb, eq-eqb, bit_and, w32}
-use Rattle.std.specs.Prelude.{Option, Some, None, is_some}
-use mathlib.Core.Logic.{by_cases}
-use mathlib.Core.Option.{none}
-use native.Mathlib.Decide.{ℕ_discrete}
-use lib.Count.{count_trailing_zeros}
+use Rattle.std.proofs.Common.{◌≡◌, ◌≢◌, ℕ, ◌+◌, ◌*◌, ◌%◌, ◌^◌, ◌<◌, ◌≤◌, true, false, eqb, List, [], ◌∷◌, get_or, sym}
+use Rattle.std.proofs.Common.{refl, ap, ◌∙◌, arith, ne_eqb, eq-eqb, bit_and, w32, Option, Some, None, is_some}
+use Rattle.std.proofs.Math.Logic.{by_cases}
+use Rattle.std.proofs.Math.Option.{none}
+use Rattle.std.proofs.Math.Decide.{ℕ_discrete}
+use Rattle.std.specs.Int.Count.{count_trailing_zeros}
 use Rattle.std.specs.Int.{bit_not}
 use Rattle.std.proofs.lemmas.Nat.{and_le_l}
 use Rattle.std.proofs.lemmas.Nat.Bits.{bit_at-trailing_zeros, bit_at_clear_same, bit_at_clear_other}
@@ -107,7 +106,8 @@ module _ (left : ℕ) (h : left ≢ 0) (l : left < 2 ^ 32) where
       omega arith
 
   -- the first one may not follow at the place, and is taken
-  pub taken_more : (x : Place) (row : Row) (mask : ℕ) → Taken x row mask left → place_on x (mask_in row first) ≡ false → Taken x row mask rest
+  pub taken_more : (x : Place) (row : Row) (mask : ℕ) → Taken x row mask left → place_on x (mask_in row first) ≡ false
+      → Taken x row mask rest
   taken_more x row mask t e = record {
     few = λ c k o.
         by_cases (ℕ_discrete c first) (λ q. rw q (t.few first first_within first_on)) (λ q. t.few c k (sym (rest_other c k q) ∙ o));

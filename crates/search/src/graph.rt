@@ -2,10 +2,12 @@
 ghost use Rattle.std.specs.Prelude.{◌≤◌};
 ghost use Rattle.limits.specs.Limits.{most_parties};
 
+use crate::symbol::Symbol;
 use crate::word::{Form, ShortWord};
 use masks::{Row, Table};
 
 // The enlarged graph of so many parties.
+// Kept: a number beside a table of 32 rows, which is 01's form: by value, and no heap.
 #[derive(Clone, Copy)]
 pub struct Graph {
     pub parties: usize,
@@ -13,9 +15,9 @@ pub struct Graph {
     ghost within: { parties ≤ most_parties },
 }
 
+// Kept: `u`, `target` and `at` are held to the graph or word beside them, as an index to a slice's length; a type would carry that along.
 impl Graph {
     ghost use Rattle.std.specs.Prelude.{◌≡◌, ℕ, ◌<◌, true, slice_index_or};
-    ghost use Rattle.limits.specs.Limits.{mask_places};
     ghost use Rattle.masks.specs.promises.Mask.{test_bit};
     ghost use Rattle.masks.specs.promises.Table.{no_row, mask_in};
     ghost use Rattle.search.specs.Word.{symbols_in};
@@ -63,15 +65,14 @@ impl Graph {
     }
 
     // The ends that party u reaches by the symbol and then as the row says.
-    fn mask_before(&self, u: usize, row: &Row, s: u8) -> u32
-        requires start { u < self.now.parties }
-        requires symbol { s < mask_places }
-        ensures { StepsBack (slice_index_or self.now.table.rows u no_row) s row.now result self.now.parties }
+    fn mask_before(&self, u: usize, row: &Row, s: Symbol) -> u32
+        requires { u < self.now.parties }
+        ensures { StepsBack (slice_index_or self.now.table.rows u no_row) s.number row.now result self.now.parties }
     {
         let from = &self.table.rows[u];
         let mut mask: u32 = 0;
         for x in 0..self.parties {
-            if (from.masks[x] >> s) & 1 == 1 {
+            if s.is_in(from.masks[x]) {
                 mask |= row.masks[x];
             }
         }
@@ -79,12 +80,11 @@ impl Graph {
     }
 
     // One step back along a symbol: the pairs that can walk it and then what the row says.
-    fn step_back(&self, row: &Row, s: u8) -> Row
-        requires { s < mask_places }
+    fn step_back(&self, row: &Row, s: Symbol) -> Row
         ensures { (u : ℕ) → u < self.now.parties
-            → StepsBack (slice_index_or self.now.table.rows u no_row) s row.now (mask_in result u) self.now.parties }
+            → StepsBack (slice_index_or self.now.table.rows u no_row) s.number row.now (mask_in result u) self.now.parties }
     {
-        let mut back = masks::empty_row();
+        let mut back = Row::empty();
         for u in 0..self.parties {
             back.masks[u] = self.mask_before(u, row, s);
         }
@@ -95,9 +95,9 @@ impl Graph {
     fn unmoved(&self) -> Row
         ensures { (u : ℕ) → u < self.now.parties → test_bit (mask_in result u) u ≡ true }
     {
-        let mut row = masks::empty_row();
+        let mut row = Row::empty();
         for u in 0..self.parties {
-            row = masks::add(row, u, u as u32);
+            row = row.add(u, u as u32);
         }
         row
     }
@@ -109,7 +109,7 @@ impl Graph {
     {
         let mut row = self.unmoved();
         for at in (0..w.word.len).rev() {
-            row = self.step_back(&row, w.word.symbols[at]);
+            row = self.step_back(&row, w.symbol(at));
         }
         row
     }

@@ -5,9 +5,11 @@ mod graph;
 mod pair;
 mod path;
 mod search;
+mod symbol;
 mod word;
 
 pub use graph::Graph;
 pub use pair::{PairIn, TwoPairsIn};
 pub use path::{NoPath, Path};
+pub use symbol::Symbol;
 pub use word::{Form, ShortWord, Word};

@@ -3,7 +3,7 @@ ghost use Rattle.rebac.specs.Matter.{pair, IsPair};
 
 use crate::graph::Graph;
 use crate::path::{NoPath, Path};
-use crate::search::Search;
+use crate::search::{Position, Search};
 use crate::word::Form;
 use limits::MOST_PARTIES;
 
@@ -67,10 +67,15 @@ impl PairIn {
             target: self.second,
             ends: self.graph.last_parties(&form, self.second),
         };
+        let start = Position {
+            at: 0,
+            u: self.first,
+            visited,
+        };
         if len == 2 {
-            return s.two_steps(0, self.first, visited);
+            return s.two_steps(start);
         }
-        s.candidate_search(0, self.first, visited)
+        s.candidate_search(start)
     }
 }
 

@@ -2,6 +2,7 @@
 use limits::MOST_PARTIES;
 
 // A path: its parties as a mask, and in order from place 0.
+// Kept: no length stands beside the parties, since the ones of `visited` are their number, which is 01's form.
 #[derive(Clone, Copy, Debug)]
 pub struct Path {
     pub visited: u32,

@@ -1,6 +1,7 @@
 // Words as values, and the forms along which a search goes.
 ghost use Rattle.search.specs.promises.WordValues.{Short};
 
+use crate::symbol::Symbol;
 use limits::WORD_CAPACITY;
 
 // A word as one value, carried between calls: its length and 31 symbols, of which those past the length mean nothing.
@@ -18,9 +19,10 @@ pub struct ShortWord {
     ghost short: { Short word },
 }
 
+// Kept: `at` is held to the word beside it, as an index to its slice's length; a type for it would carry the word along.
 impl ShortWord {
-    ghost use Rattle.std.specs.Prelude.{◌≡◌, ◌<◌, ◌≤◌, replicate, set};
-    ghost use Rattle.limits.specs.Limits.{word_capacity, symbol_count};
+    ghost use Rattle.std.specs.Prelude.{◌≡◌, ◌<◌, ◌≤◌, replicate, set, slice_index};
+    ghost use Rattle.limits.specs.Limits.{word_capacity};
     ghost use Rattle.search.specs.Word.{symbols_in};
 
     // A word of zeros.
@@ -37,15 +39,24 @@ impl ShortWord {
         }
     }
 
+    // The symbol at a place.
+    pub fn symbol(&self, at: usize) -> Symbol
+        requires { at < self.now.word.len }
+        ensures { result.number ≡ slice_index self.now.word.symbols at }
+    {
+        Symbol {
+            number: self.word.symbols[at],
+        }
+    }
+
     // The word with another symbol at a place.
-    pub fn put(self, at: usize, s: u8) -> Self
-        requires place { at < word_capacity }
-        requires symbol { s < symbol_count }
+    pub fn put(self, at: usize, s: Symbol) -> Self
+        requires { at < word_capacity }
         ensures len { result.word.len ≡ self.word.len }
-        ensures symbols { result.word.symbols ≡ set self.word.symbols at s }
+        ensures symbols { result.word.symbols ≡ set self.word.symbols at s.number }
     {
         let mut word = self.word;
-        word.symbols[at] = s;
+        word.symbols[at] = s.number;
         ShortWord { word }
     }
 }
@@ -57,6 +68,7 @@ pub struct Form {
     pub fixed: usize,
 }
 
+// Kept: `at` is held to the word beside it, as an index to its slice's length; a type for it would carry the word along.
 impl Form {
     ghost use Rattle.std.specs.Prelude.{◌≡◌, ◌<◌};
     ghost use Rattle.search.specs.promises.Search.{place_on, place_at};
@@ -66,10 +78,10 @@ impl Form {
         requires { at < self.now.word.word.len }
         ensures { result ≡ place_on (place_at self.now.word.word self.now.fixed at) mask }
     {
-        let s = self.word.word.symbols[at];
+        let s = self.word.symbol(at);
         if at < self.fixed {
-            return (mask >> s) & 1 == 1;
+            return s.is_in(mask);
         }
-        mask >> s != 0
+        mask >> s.number != 0
     }
 }

@@ -1,13 +1,13 @@
 -- The search back turn by turn: the candidates in ascending order add up, and the last two steps are counted by a mask. Assumes nothing.
-use Rattle.std.proofs.Common.{◌≡◌, ℕ, zero, suc, ◌+◌, ◌-◌, ◌/◌, ◌%◌, ◌^◌, ◌<◌, ◌≤◌, min, max, Bool, true, false, not, ◌&&◌}
-use Rattle.std.proofs.Common.{eqb, ltb, [], ◌∷◌, get_or, sym, refl, ap, ◌∙◌, ⊎_elim, div-one, arith, shr-shr, ltb-true, le-ltb, lt-ltb, eq-eqb, ne_eqb}
+use Rattle.std.proofs.Common.{◌≡◌, ℕ, zero, suc, ◌+◌, ◌-◌, ◌/◌, ◌%◌, ◌^◌, ◌<◌, ◌≤◌, min, max, Bool, true}
+use Rattle.std.proofs.Common.{false, not, ◌&&◌, eqb, ltb, [], ◌∷◌, get_or, sym, refl, ap, ◌∙◌, ⊎_elim, div-one}
+use Rattle.std.proofs.Common.{arith, shr-shr, ltb-true, le-ltb, lt-ltb, eq-eqb, ne_eqb, bit_and, Option, Some, None, MatchOption, IfSome}
 use mathlib.Core.List.{Memᴰ}
-use mathlib.Core.Logic.{by_cases}
-use native.Mathlib.Decide.{dec_lt, ℕ_discrete}
-use lib.Bits.{bit_and}
-use lib.Count.{ones, ones_step}
-use borrow.Author.Tests.{not-true}
-use Rattle.limits.specs.Limits.{word_capacity}
+use Rattle.std.proofs.Math.Logic.{by_cases}
+use Rattle.std.proofs.Math.Decide.{dec_lt, ℕ_discrete}
+use Rattle.std.specs.Int.Count.{ones, ones_step}
+use Rattle.std.proofs.lemmas.Bool.{not-true}
+use Rattle.std.proofs.lemmas.Option.{IfSome_then}
 use Rattle.lists.specs.Lists.{range, up_from}
 use Rattle.lists.specs.Order.{only_if, sum_of, greatest_of}
 use Rattle.lists.proofs.Cases.{by_test, both, and_left, and_right}
@@ -17,7 +17,7 @@ use Rattle.masks.specs.promises.Mask.{test_bit, with_bit}
 use Rattle.masks.specs.promises.Table.{mask_in, mask_at}
 use Rattle.masks.specs.declared.Row.{Row}
 use Rattle.masks.specs.declared.Table.{Table}
-use Rattle.masks.proofs.BitLaws.{bit_cases, some_from, test_and, ones_bit}
+use Rattle.masks.proofs.BitLaws.{bit_cases, some_from, test_and}
 use Rattle.masks.proofs.MaskLaws.{zero_bit}
 use Rattle.rebac.specs.promises.Backward.{count_back, depth_back}
 use Rattle.rebac.proofs.BackwardLaws.{depth_most}
@@ -27,8 +27,9 @@ use Rattle.search.proofs.LastLaws.{test_without}
 use Rattle.word_test.specs.promises.Backward.{symbols_back, ways_from, depth_from, may_stand, BackAs, CandidateQuery, FoundBack, Seconds}
 use Rattle.search.specs.promises.Last.{without}
 use Rattle.word_test.specs.promises.Last.{some_of, LastTwo, two_ways, two_far, LastThree}
-use Rattle.word_test.specs.promises.Walk.{Look}
+use Rattle.word_test.specs.promises.Walk.{Skipped, Look}
 use Rattle.word_test.specs.declared.back.Back.{Back}
+use Rattle.word_test.specs.declared.back.Position.{Position}
 use Rattle.word_test.specs.declared.back.SearchBack.{SearchBack}
 use Rattle.word_test.proofs.WayLaws.{back_length}
 use Rattle.word_test.proofs.CountLaws.{Counted, count_start, count_past, count_on, count_full, count_end}
@@ -93,9 +94,9 @@ module _ (n : ℕ) (t : Table) (w : Word) (starts visited u at : ℕ) where
 
   -- none of them
   pub no_candidate : 1 ≤ at → (mask : ℕ) → ((c : ℕ) → test_bit mask c ≡ (ltb c n && may_stand t w visited u at c)) → mask ≡ 0
-      → (passed : ℕ) {cap deep : ℕ} {r : Back} → r.count ≡ 0 → r.depth ≡ max deep passed → r.depth ≤ word_capacity
+      → (passed : ℕ) {cap deep : ℕ} {r : Back} → r.count ≡ 0 → r.depth ≡ max deep passed
       → BackAs cap (ways_from n t starts visited u (symbols_back w 1 at)) deep (passed + depth_from n t visited u (symbols_back w 1 at)) r
-  no_candidate h mask f e passed k d l =
+  no_candidate h mask f e passed k d =
       let barred : (c : ℕ) → c < n → may_stand t w visited u at c ≡ false =
       λ c b. sym (f c ∙ rw (lt-ltb c n b)) ∙ ap (λ (m : ℕ). test_bit m c) e ∙ zero_bit c in
       let none = sum_none ways_by (range n) (λ c m. rw (barred c (range_out n m))) in
@@ -104,7 +105,7 @@ module _ (n : ℕ) (t : Table) (w : Word) (starts visited u at : ℕ) where
         count = omega (arith, k, none);
         depth = λ z. omega (arith, d, near);
         known = omega (arith, d);
-        fits = l;
+        most = omega (arith, d);
       })
 
 -- a greater depth skips no fewer
@@ -113,13 +114,15 @@ pub look_deeper : {w : Word} (at n : ℕ) (t : Table) (visited starts : ℕ) {de
 look_deeper at n t visited starts l mask h v b e o =
     let r = h v b e o in record { lost = r.lost; near = omega (arith, r.near, l) }
 
--- where the loop over the candidates stands: those before v are counted, and one that `onward` lacks may be skipped
-pub record Turn (s : SearchBack) (cap at u visited deep onward count depth v : ℕ) : Type 0 where
-  pub skips : Look s.graph.parties s.graph.table s.word.word at visited s.starts depth onward
-  pub sums : Counted (ways_by s.graph.parties s.graph.table s.word.word s.starts visited u at)
-      (far_by s.graph.parties s.graph.table s.word.word s.starts visited u at) cap deep (s.word.word.len - (at + 1)) count depth v
+-- where the loop over the candidates stands: those before v are counted, and once walks were looked at, one that `onward` lacks
+-- may be skipped
+pub record Turn (s : SearchBack) (p : Position) (onward : Option ℕ) (count depth v : ℕ) : Type 0 where
+  pub skips : IfSome onward (Look s.graph.parties s.graph.table s.word.word p.at p.visited s.starts depth)
+  pub sums : Counted (ways_by s.graph.parties s.graph.table s.word.word s.starts p.visited p.u p.at)
+      (far_by s.graph.parties s.graph.table s.word.word s.starts p.visited p.u p.at)
+      p.cap p.deep (s.word.word.len - (p.at + 1)) count depth v
 
-module _ {s : SearchBack} {cap at u mask visited deep : ℕ} (q : CandidateQuery s cap at u mask visited deep) where
+module _ {s : SearchBack} {p : Position} (q : CandidateQuery s p) where
   abbrev n : ℕ
   n = s.graph.parties
 
@@ -129,66 +132,79 @@ module _ {s : SearchBack} {cap at u mask visited deep : ℕ} (q : CandidateQuery
   abbrev w : Word
   w = s.word.word
 
-  abbrev starts : ℕ
-  starts = s.starts
+  -- the candidates of the position, and what was found of them all
+  abbrev standing : ℕ → Bool
+  standing = may_stand t w p.visited p.u p.at
+
+  abbrev ways : ℕ → ℕ
+  ways = ways_by n t w s.starts p.visited p.u p.at
+
+  abbrev far : ℕ → ℕ
+  far = far_by n t w s.starts p.visited p.u p.at
+
+  abbrev Found : Back → Type 0
+  Found = FoundBack s p.cap p.at p.u p.visited p.deep
+
+  found_all : {r : Back} → BackAs p.cap (sum_of ways (range n)) p.deep (w.len - (p.at + 1) + greatest_of far (range n)) r → Found r
+  found_all = all_candidates n t w s.starts p.visited p.u p.at (omega (arith, q.three)) (w.len - (p.at + 1))
 
   -- before the first candidate
-  pub turn_start : {depth : ℕ} → depth ≡ max deep (w.len - (at + 1)) → Turn s cap at u visited deep 4294967295 0 depth 0
-  turn_start e = record {
-    skips = λ v h z o. both (ones_bit 32 v (omega (arith, s.graph.within, h))) z;
-    sums = count_start _ _ q.some e (omega (arith, e, q.fits, s.word.short.len));
-  }
+  pub turn_start : {depth : ℕ} → depth ≡ max p.deep (w.len - (p.at + 1)) → Turn s p None 0 depth 0
+  turn_start e = record { skips = tt; sums = count_start _ _ q.some e }
 
-  module _ {onward count depth v : ℕ} (h : Turn s cap at u visited deep onward count depth v) (l : v < n) where
+  module _ {onward : Option ℕ} {count depth v : ℕ} (h : Turn s p onward count depth v) (l : v < n) where
     -- a candidate that the mask lacks
-    pub turn_barred : test_bit mask v ≡ false → Turn s cap at u visited deep onward count depth (v + 1)
+    pub turn_barred : test_bit p.mask v ≡ false → Turn s p onward count depth (v + 1)
     turn_barred e =
-        let z : may_stand t w visited u at v ≡ false = sym (q.candidates v ∙ rw (lt-ltb v n l)) ∙ e in
+        let z : standing v ≡ false = sym (q.candidates v ∙ rw (lt-ltb v n l)) ∙ e in
         record {
           skips = h.skips;
           sums = count_past h.sums (rw z) (rw z (omega (arith, h.sums.start)));
         }
 
-    stands : test_bit mask v ≡ true → may_stand t w visited u at v ≡ true
+    stands : test_bit p.mask v ≡ true → standing v ≡ true
     stands e = sym (q.candidates v ∙ rw (lt-ltb v n l)) ∙ e
 
     -- one that is not visited
-    unvisited : test_bit mask v ≡ true → test_bit visited v ≡ false
-    unvisited e = not-true (test_bit visited v) (and_left (not (test_bit visited v)) _ (stands e))
+    unvisited : test_bit p.mask v ≡ true → test_bit p.visited v ≡ false
+    unvisited e = not-true (test_bit p.visited v) (and_left (not (test_bit p.visited v)) _ (stands e))
 
     -- one that may be skipped
-    pub turn_skip : test_bit mask v ≡ true → test_bit onward v ≡ false → Turn s cap at u visited deep onward count depth (v + 1)
-    turn_skip e z =
-        let r = h.skips v l z (unvisited e) in
+    pub turn_skip : {b : Bool} → test_bit p.mask v ≡ true → MatchOption onward (b ≡ false) (λ mask. b ≡ not (test_bit mask v)) → b ≡ true
+        → Turn s p onward count depth (v + 1)
+    turn_skip {b} e f y =
+        let r = skipped onward h.skips f in
         record {
           skips = h.skips;
           sums = count_past h.sums (rw (stands e) r.lost) (rw (stands e) (omega (arith, r.near, q.place)));
         }
+      where
+        skipped : (o : Option ℕ) → IfSome o (Look n t w p.at p.visited s.starts depth)
+            → MatchOption o (b ≡ false) (λ mask. b ≡ not (test_bit mask v)) → Skipped n t w p.at p.visited s.starts depth v
+        skipped None g z = both y z
+        skipped (Some mask) g z = g v l (not-true (test_bit mask v) (sym z ∙ y)) (unvisited e)
 
     -- one that was tried
-    module _ (e : test_bit mask v ≡ true) {r : Back}
-        (f : FoundBack s (cap - count) (at - 1) v (with_bit visited v) depth r) where
-      tried : BackAs (cap - count) (ways_by n t w starts visited u at v) depth (w.len - (at + 1) + far_by n t w starts visited u at v) r
+    module _ (e : test_bit p.mask v ≡ true) {r : Back}
+        (f : FoundBack s (p.cap - count) (p.at - 1) v (with_bit p.visited v) depth r) where
+      tried : BackAs (p.cap - count) (ways v) depth (w.len - (p.at + 1) + far v) r
       tried = rw (stands e) (back_far (omega (arith, q.three, q.place)) f)
 
-      pub tried_on : count + r.count < cap → (more : ℕ) → Look n t w at visited starts r.depth more
-          → Turn s cap at u visited deep more (count + r.count) r.depth (v + 1)
+      pub tried_on : count + r.count < p.cap → (more : Option ℕ) → IfSome more (Look n t w p.at p.visited s.starts r.depth)
+          → Turn s p more (count + r.count) r.depth (v + 1)
       tried_on z more k = record { skips = k; sums = count_on h.sums tried z }
 
-      pub tried_skips : Look n t w at visited starts r.depth onward
-      tried_skips = look_deeper at n t visited starts f.known onward h.skips
+      pub tried_skips : IfSome onward (Look n t w p.at p.visited s.starts r.depth)
+      tried_skips = IfSome_then onward h.skips (look_deeper p.at n t p.visited s.starts f.known)
 
-      pub tried_full : cap ≤ count + r.count → (entered : ℕ)
-          → FoundBack s cap at u visited deep (record { count = count + r.count; depth = depth; tried = entered })
-      tried_full z entered =
-          all_candidates n t w starts visited u at (omega (arith, q.three)) (w.len - (at + 1)) (count_full h.sums tried l
-          q.some z entered)
+      pub tried_full : p.cap ≤ count + r.count → (entered : ℕ)
+          → Found (record { count = count + r.count; depth = depth; tried = entered })
+      tried_full z entered = found_all (count_full h.sums tried l q.some z entered)
 
   -- after the last candidate
-  pub turn_end : {onward count depth v : ℕ} → Turn s cap at u visited deep onward count depth v → v ≡ n → (entered : ℕ)
-      → FoundBack s cap at u visited deep (record { count = count; depth = depth; tried = entered })
-  turn_end h l entered =
-      all_candidates n t w starts visited u at (omega (arith, q.three)) (w.len - (at + 1)) (count_end h.sums l entered)
+  pub turn_end : {onward : Option ℕ} {count depth v : ℕ} → Turn s p onward count depth v → v ≡ n → (entered : ℕ)
+      → Found (record { count = count; depth = depth; tried = entered })
+  turn_end h l entered = found_all (count_end h.sums l entered)
 
 -- a mask of the parties from which the last two steps lead: those not passed to which the first symbol leads among the starts, and where a
 -- greater length is sought all of them
@@ -251,7 +267,9 @@ module _ {n : ℕ} {t : Table} {w : Word} {starts more v deep mask : ℕ}
         (λ k. f.depth z ∙ ap (λ (x : ℕ). max deep (w.len - 2 + x)) (leaf_far k))
         (λ k. omega (arith, f.depth z, some_one mask, far_one, l));
     known = f.known;
-    fits = f.fits;
+    most = by_cases (dec_lt (deep + 1) w.len)
+        (λ k. rw (← leaf_far k) f.most)
+        (λ k. omega (arith, f.most, some_one mask, l));
   }
 
 -- a candidate of the last three steps, beyond which the last two were counted
@@ -320,7 +338,9 @@ module _ {n : ℕ} {t : Table} {w : Word} {starts deep : ℕ} {row : Row} (h : S
                 greatest_most (far_by n t w starts visited u 2) (range n) 2 most_by,
               ));
           known = g.known;
-          fits = g.fits;
+          most = by_cases (dec_lt (deep + 1) w.len)
+              (λ k. rw (← greatest_same _ _ (range n) (λ c m. three_far k c (range_out n m))) g.most)
+              (λ k. omega (arith, g.most, l, greatest_most (two_far mask row visited starts) (range n) 2 most));
         })
       where
         most : (c : ℕ) → Memᴰ c (range n) → two_far mask row visited starts c ≤ 2

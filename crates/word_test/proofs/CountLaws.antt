@@ -1,9 +1,10 @@
 -- A loop that adds up values below a cap and keeps the greatest of others while the sum is 0: where it stands, and what one turn adds.
 -- Assumes nothing.
 use Rattle.std.proofs.Common.{◌≡◌, ℕ, ◌+◌, ◌-◌, ◌<◌, ◌≤◌, max, refl, ◌∙◌, arith}
-use Rattle.limits.specs.Limits.{word_capacity}
 use Rattle.lists.specs.Lists.{range, up_from}
 use Rattle.lists.specs.Order.{sum_of, greatest_of}
+use Rattle.lists.proofs.ListLaws.{range_in, range_out}
+use Rattle.lists.proofs.OrderLaws.{greatest_least, greatest_most}
 use Rattle.lists.proofs.Pointwise.{sum_next, greatest_next, sum_longer}
 use Rattle.word_test.specs.promises.Backward.{BackAs}
 use Rattle.word_test.specs.declared.back.Back.{Back}
@@ -15,19 +16,18 @@ pub record Counted (f h : ℕ → ℕ) (cap deep passed count depth v : ℕ) : T
   pub reached : count ≡ 0 → depth ≡ max deep (passed + greatest_of h (range v))
   pub start : passed ≤ depth
   pub known : deep ≤ depth
-  pub fits : depth ≤ word_capacity
+  pub most : depth ≤ max deep (passed + greatest_of h (range v))
 
 module _ (f h : ℕ → ℕ) where
-  pub count_start : {cap deep passed depth : ℕ} → 1 ≤ cap → depth ≡ max deep passed → depth ≤ word_capacity
-      → Counted f h cap deep passed 0 depth 0
+  pub count_start : {cap deep passed depth : ℕ} → 1 ≤ cap → depth ≡ max deep passed → Counted f h cap deep passed 0 depth 0
   unfolding sum_of greatest_of range up_from
-  count_start c e l = record {
+  count_start c e = record {
     counted = refl;
     below = c;
     reached = λ z. omega (arith, e);
     start = omega (arith, e);
     known = omega (arith, e);
-    fits = l;
+    most = omega (arith, e);
   }
 
 module _ {f h : ℕ → ℕ} {cap deep passed count depth v : ℕ} (c : Counted f h cap deep passed count depth v) where
@@ -39,7 +39,7 @@ module _ {f h : ℕ → ℕ} {cap deep passed count depth v : ℕ} (c : Counted 
     reached = λ z. omega (arith, c.reached z, greatest_next h v, l);
     start = c.start;
     known = c.known;
-    fits = c.fits;
+    most = omega (arith, c.most, greatest_next h v);
   }
 
   -- one that was tried, with what is left of the cap and the depth so far
@@ -51,7 +51,7 @@ module _ {f h : ℕ → ℕ} {cap deep passed count depth v : ℕ} (c : Counted 
       reached = λ y. omega (arith, c.reached (omega arith), b.depth (omega arith), greatest_next h v);
       start = omega (arith, c.start, b.known);
       known = omega (arith, c.known, b.known);
-      fits = b.fits;
+      most = omega (arith, c.most, b.most, greatest_next h v);
     }
 
     -- enough of them: the rest is not counted
@@ -62,7 +62,12 @@ module _ {f h : ℕ → ℕ} {cap deep passed count depth v : ℕ} (c : Counted 
       count = omega (arith, z, b.count, c.below, c.counted, sum_next f v, sum_longer f (v + 1) n (omega arith));
       depth = λ y. absurd (omega arith);
       known = c.known;
-      fits = c.fits;
+      most = omega (
+        arith,
+        c.most,
+        greatest_most h (range v) (greatest_of h (range n))
+            (λ x m. greatest_least h (range n) (range_in n x (omega (arith, l, range_out v m)))),
+      );
     }
 
   -- after the last
@@ -72,5 +77,5 @@ module _ {f h : ℕ → ℕ} {cap deep passed count depth v : ℕ} (c : Counted 
     count = let k : count ≡ sum_of f (range n) = c.counted ∙ rw e in omega (arith, k, c.below);
     depth = λ y. c.reached y ∙ rw e;
     known = c.known;
-    fits = c.fits;
+    most = rw (← e) c.most;
   }

@@ -2,5 +2,6 @@ pub mod StepLaws
 pub mod WayLaws
 pub mod CountLaws
 pub mod BackLaws
-pub mod PlacesLaws
+pub mod TriedLaws
 pub mod TestLaws
+pub mod PlacesLaws

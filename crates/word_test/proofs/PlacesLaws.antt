@@ -1,26 +1,30 @@
 -- The search back from the second party: which masks it begins with, and where it ends at once. Assumes nothing.
-use Rattle.std.proofs.Common.{◌≡◌, ℕ, ◌+◌, ◌-◌, ◌^◌, ◌<◌, ◌≤◌, Bool, true, false, ◌&&◌, ltb, get_or, sym, refl, ap, ◌∙◌, arith, ltb-true}
-use lib.Bits.{bit_and}
-use Rattle.limits.specs.Limits.{most_parties, word_capacity}
+use Rattle.std.proofs.Common.{◌≡◌, ℕ, ◌+◌, ◌-◌, ◌^◌, ◌<◌, ◌≤◌, Bool, true, false, ◌&&◌, ltb, get_or}
+use Rattle.std.proofs.Common.{max, sym, refl, ap, subst, ◌∙◌, arith, ltb-true, bit_and}
+use Rattle.limits.specs.Limits.{most_parties}
 use Rattle.lists.proofs.Cases.{by_test, and_false}
 use Rattle.masks.specs.promises.Mask.{test_bit, with_bit}
-use Rattle.masks.specs.promises.Table.{mask_at}
+use Rattle.masks.specs.promises.Table.{no_row, mask_at}
 use Rattle.masks.specs.declared.Row.{Row}
 use Rattle.masks.specs.declared.Table.{Table}
 use Rattle.masks.proofs.BitLaws.{ones_bit, test_and}
 use Rattle.masks.proofs.MaskLaws.{zero_bit}
+use Rattle.rebac.specs.Paths.{path_count}
+use Rattle.rebac.specs.WordTest.{way_length}
 use Rattle.rebac.proofs.BackwardLaws.{count_none, depth_most, way_none}
-use Rattle.search.specs.promises.PairSearch.{table_graph}
-use Rattle.search.specs.declared.graph.Graph.{Graph}
+use Rattle.search.specs.Word.{symbols_in}
+use Rattle.search.specs.promises.PairSearch.{table_graph, graph_of, pair_of}
+use Rattle.search.specs.declared.pair.PairIn.{PairIn}
 use Rattle.search.specs.declared.word.ShortWord.{ShortWord}
 use Rattle.search.specs.declared.word.Word.{Word}
 use Rattle.word_test.specs.promises.Backward.{symbols_back, ways_from, depth_from, may_stand, BackAs, CandidateQuery, Seconds}
-use Rattle.word_test.specs.promises.Steps.{StepsTo}
+use Rattle.word_test.specs.promises.Steps.{StepsFrom, StepsTo}
 use Rattle.word_test.specs.promises.Last.{LastTwo, LastThree}
 use Rattle.word_test.specs.declared.back.Back.{Back}
-use Rattle.word_test.proofs.StepLaws.{IntoTo, test_not}
+use Rattle.word_test.proofs.StepLaws.{IntoTo, test_not, stands_to}
 use Rattle.word_test.proofs.WayLaws.{back_length}
 use Rattle.word_test.proofs.BackLaws.{Leaf, back_far, two_back, three_back, no_candidate}
+use Rattle.word_test.proofs.TestLaws.{found_count, found_depth}
 
 -- the parties that are of account before the second symbol: the starts, and where a length is sought all
 pub record Wanted (len starts deep wanted : ℕ) : Type 0 where
@@ -59,98 +63,128 @@ ends_stand n t w among visited u at ends l b h c =
     (by_test (test_bit among c) (λ q. rw q) (λ q. rw q)))
     (λ e. rw e)
 
--- what the search needs
-pub record Places (g : Graph) (x : ShortWord) (cap second deep : ℕ) : Type 0 where
+-- what the search begins with: two symbols or more, and the parties to which the first leads
+pub record Begun (q : PairIn) (x : ShortWord) (cap deep starts : ℕ) : Type 0 where
   pub some : 1 ≤ cap
   pub two : 2 ≤ x.word.len
-  pub fits : deep ≤ word_capacity
+  pub steps : StepsFrom q.graph.parties (get_or q.graph.table.rows q.first no_row) (get_or x.word.symbols 0 0) starts
 
-module _ {g : Graph} {x : ShortWord} {cap second deep : ℕ} (q : Places g x cap second deep) (starts visited : ℕ) where
+pub begun : (q : PairIn) (x : ShortWord) (cap deep : ℕ) {starts symbol : ℕ} → 1 ≤ cap → (x.word.len ≡ 0 → ⊥) → (x.word.len ≡ 1 → ⊥)
+    → symbol ≡ get_or x.word.symbols 0 0 → StepsFrom q.graph.parties (get_or q.graph.table.rows q.first no_row) symbol starts
+    → Begun q x cap deep starts
+begun q x cap deep h zero one e f = record { some = h; two = omega (arith, zero, one); steps = rw e at f }
+
+-- its result is the answer: the number of the pair's paths, and where there is none the greater of the depth and the longest way
+pub record Answered (q : PairIn) (x : ShortWord) (cap deep : ℕ) (r : Back) : Type 0 where
+  pub count : r.count ≡ path_count (graph_of q.graph) cap (pair_of q) (symbols_in x.word)
+  pub depth : r.count ≡ 0 → r.depth ≡ max deep (way_length (graph_of q.graph) (pair_of q) (symbols_in x.word))
+
+module _ {q : PairIn} {x : ShortWord} {cap deep starts : ℕ} (b : Begun q x cap deep starts) where
   abbrev n : ℕ
-  n = g.parties
+  n = q.graph.parties
 
   abbrev t : Table
-  t = g.table
+  t = q.graph.table
 
   abbrev w : Word
   w = x.word
 
-  abbrev pub Searched : Back → Type 0
-  Searched r = BackAs cap (ways_from n t starts visited second (symbols_back w 1 (w.len - 1))) deep
-      (depth_from n t visited second (symbols_back w 1 (w.len - 1))) r
-
   below : (c : ℕ) → ltb c n ≡ true → c < most_parties
-  below c e = omega (arith, ltb-true c n e, g.within)
+  below c e = omega (arith, ltb-true c n e, q.graph.within)
+
+  abbrev Searched : Back → ℕ → Type 0
+  Searched r visited = BackAs cap (ways_from n t starts visited q.second (symbols_back w 1 (w.len - 1))) deep
+      (depth_from n t visited q.second (symbols_back w 1 (w.len - 1))) r
 
   -- no length is sought, and the first symbol leads nowhere
-  pub places_nowhere : w.len ≤ deep + 1 → starts ≡ 0 → {r : Back} → r.count ≡ 0 → r.depth ≡ deep → Searched r
-  places_nowhere l e {r} k d =
-      let none : ways_from n t starts visited second (symbols_back w 1 (w.len - 1)) ≡ 0 =
+  nowhere : w.len ≤ deep + 1 → starts ≡ 0 → (visited : ℕ) {r : Back} → r.count ≡ 0 → r.depth ≡ deep → Searched r visited
+  nowhere l e visited {r} k d =
+      let none : ways_from n t starts visited q.second (symbols_back w 1 (w.len - 1)) ≡ 0 =
       count_none (table_graph n t) (λ c x. test_bit x c) (λ c x. with_bit x c) (test_bit starts)
-      (symbols_back w 1 (w.len - 1)) visited second
+      (symbols_back w 1 (w.len - 1)) visited q.second
       (way_none (table_graph n t) (λ c x. test_bit x c) (λ c x. with_bit x c) (test_bit starts) (λ c. ap (λ (m : ℕ). test_bit m c) e
       ∙ zero_bit c)
-      (symbols_back w 1 (w.len - 1)) visited second) in
-      let most = depth_most (table_graph n t) (λ c x. test_bit x c) (λ c x. with_bit x c) (symbols_back w 1 (w.len - 1)) visited second in
+      (symbols_back w 1 (w.len - 1)) visited q.second) in
+      let most = depth_most (table_graph n t) (λ c x. test_bit x c) (λ c x. with_bit x c) (symbols_back w 1 (w.len - 1)) visited q.second in
       record {
         count = omega (arith, k, none);
         depth = λ z. omega (arith, d, most, back_length w 1 (w.len - 1), l);
         known = omega (arith, d);
-        fits = omega (arith, d, q.fits);
+        most = omega (arith, d);
       }
 
-  -- a word of two symbols
-  pub places_two : (wanted : ℕ) → Wanted w.len starts deep wanted → w.len ≡ 2 → (ends : ℕ)
-      → ((c : ℕ) → test_bit ends c ≡ (ltb c n && (test_bit wanted c && may_stand t w visited second (w.len - 1) c)))
-      → {r : Back} → LastTwo ends starts cap w.len deep r → Searched r
-  places_two wanted k e ends f {r} g =
-      let i : w.len - 1 ≡ 1 = omega (arith, e) in
-      let leaf : Leaf n t w starts visited second deep ends = record {
-        starting = λ c. rw (f c, i)
-            (inside (ltb c n) (test_bit wanted c) (may_stand t w visited second 1 c) (test_bit starts c) (λ l. k.starting c (below c l)));
-        all = λ l c. rw (f c, i) (by_test (ltb c n) (λ z. rw (z, k.all l c (below c z))) (λ z. rw z));
-      } in
-      rw i (back_far (omega (arith, e)) (two_back leaf q.two g))
+  -- what is gathered for the last two steps
+  pub places_seconds : {wanted d : ℕ} → Wanted w.len starts deep wanted → {row : Row} → IntoTo n t (get_or w.symbols 1 0) wanted row d
+      → d ≡ n → Seconds n t w starts deep row
+  places_seconds {wanted} k {row} into e =
+      let h : IntoTo n t (get_or w.symbols 1 0) wanted row n = rw e at into in
+      record {
+        starting = λ v c b. ap (λ (x : Bool). x && test_bit starts c) (h.masks v b c)
+            ∙ inside (ltb c n) (test_bit wanted c) (test_bit (mask_at t c v) (get_or w.symbols 1 0)) (test_bit starts c)
+            (λ l. k.starting c (below c l));
+        all = λ l v c b. h.masks v b c ∙ by_test (ltb c n) (λ z. rw (z, k.all l c (below c z))) (λ z. rw z);
+      }
 
-  -- three or more: every party that may stand before the second
-  module _ (ends : ℕ) (f : (c : ℕ) → test_bit ends c ≡ (ltb c n && (test_bit 4294967295 c && may_stand t w visited second
-      (w.len - 1) c))) where
-    pub ends_all : (c : ℕ) → test_bit ends c ≡ (ltb c n && may_stand t w visited second (w.len - 1) c)
-    ends_all c = f c ∙ by_test (ltb c n) (λ z. rw (z, ones_bit 32 c (below c z))) (λ z. rw z)
+  -- both parties of the pair are visited
+  module _ {one visited : ℕ} (first : one ≡ with_bit 0 q.first) (both : visited ≡ with_bit one q.second) (fits : visited < 2 ^ 32) where
+    answered : {r : Back} → Searched r visited → Answered q x cap deep r
+    answered {r} s =
+        let f : Searched r (with_bit (with_bit 0 q.first) q.second) =
+        subst (Searched r) (both ∙ ap (λ (m : ℕ). with_bit m q.second) first) s in
+        let long : 1 ≤ w.len = omega (arith, b.two) in
+        record { count = found_count q x long starts b.steps f; depth = found_depth q x long starts f }
 
-    pub places_none : ends ≡ 0 → {r : Back} → r.count ≡ 0 → r.depth ≡ deep → Searched r
-    places_none e k d =
-        back_far (omega arith)
-        (no_candidate n t w starts visited second (w.len - 1) (omega (arith, q.two)) ends ends_all e 0 k (omega (arith, d)) (omega
-        (arith, d, q.fits)))
+    -- a word of two symbols
+    pub places_two : {wanted last : ℕ} (ends : ℕ) → Wanted w.len starts deep wanted → w.len ≡ 2 → last ≡ get_or w.symbols (w.len - 1) 0
+        → StepsTo n t last q.second (bit_and wanted (4294967295 - visited)) ends
+        → {r : Back} → LastTwo ends starts cap w.len deep r → Answered q x cap deep r
+    places_two {wanted} ends k e l to g =
+        let i : w.len - 1 ≡ 1 = omega (arith, e) in
+        let f = ends_stand n t w wanted visited q.second (w.len - 1) ends q.graph.within fits (rw l at to) in
+        let before = may_stand t w visited q.second 1 in
+        let leaf : Leaf n t w starts visited q.second deep ends = record {
+          starting = λ c. rw (f c, i)
+              (inside (ltb c n) (test_bit wanted c) (before c) (test_bit starts c) (λ l. k.starting c (below c l)));
+          all = λ l c. rw (f c, i) (by_test (ltb c n) (λ z. rw (z, k.all l c (below c z))) (λ z. rw z));
+        } in
+        answered (rw i (back_far (omega (arith, e)) (two_back leaf b.two g)))
 
-    -- what is gathered for the last two steps
-    pub places_seconds : (wanted : ℕ) → Wanted w.len starts deep wanted → (row : Row) → IntoTo n t (get_or w.symbols 1 0) wanted row n
-        → Seconds n t w starts deep row
-    places_seconds wanted k row h = record {
-      starting = λ v c b. ap (λ (x : Bool). x && test_bit starts c) (h.masks v b c)
-          ∙ inside (ltb c n) (test_bit wanted c) (test_bit (mask_at t c v) (get_or w.symbols 1 0)) (test_bit starts c)
-          (λ l. k.starting c (below c l));
-      all = λ l v c b. h.masks v b c ∙ by_test (ltb c n) (λ z. rw (z, k.all l c (below c z))) (λ z. rw z);
-    }
+    -- three or more: every party that may stand before the second
+    module _ {last : ℕ} (ends : ℕ) (l : last ≡ get_or w.symbols (w.len - 1) 0)
+        (to : StepsTo n t last q.second (4294967295 - visited) ends) where
+      stand : (c : ℕ) → test_bit ends c ≡ (ltb c n && may_stand t w visited q.second (w.len - 1) c)
+      stand = stands_to n t w visited q.second (w.len - 1) ends q.graph.within fits (rw l at to)
 
-    pub places_three : w.len ≡ 3 → (row : Row) → Seconds n t w starts deep row
-        → {r : Back} → LastThree ends row visited starts cap n w.len deep r → Searched r
-    places_three e row s g =
-        let i : w.len - 1 ≡ 2 = omega (arith, e) in
-        rw i (back_far (omega (arith, e)) (three_back s ends visited second (λ c. ends_all c ∙ rw i) (omega (arith, e)) g))
+      pub places_none : ends ≡ 0 → {r : Back} → r.count ≡ 0 → r.depth ≡ deep → Answered q x cap deep r
+      places_none e k d =
+          answered (back_far (omega arith)
+          (no_candidate n t w starts visited q.second (w.len - 1) (omega (arith, b.two)) ends stand e 0 k (omega (arith, d))))
 
-    pub places_query : (w.len ≡ 2 → ⊥) → (w.len ≡ 3 → ⊥) → (row : Row) → Seconds n t w starts deep row
-        → CandidateQuery (record { graph = g; word = x; starts = starts; seconds = row }) cap (w.len - 1) second ends visited deep
-    places_query a b row s = record {
-      some = q.some;
-      three = omega (arith, q.two, a, b);
-      place = omega (arith, q.two);
-      fits = q.fits;
-      candidates = ends_all;
-      seconds = s;
-    }
+      pub places_three : w.len ≡ 3 → {row : Row} → Seconds n t w starts deep row
+          → {r : Back} → LastThree ends row visited starts cap n w.len deep r → Answered q x cap deep r
+      places_three e s g =
+          let i : w.len - 1 ≡ 2 = omega (arith, e) in
+          answered (rw i (back_far (omega (arith, e)) (three_back s ends visited q.second (λ c. stand c ∙ rw i) (omega (arith, e)) g)))
 
-  pub places_search : {r : Back} → BackAs cap (ways_from n t starts visited second (symbols_back w 1 (w.len - 1))) deep
-      (w.len - (w.len - 1 + 1) + depth_from n t visited second (symbols_back w 1 (w.len - 1))) r → Searched r
-  places_search f = back_far (omega (arith, q.two)) f
+      pub places_query : (w.len ≡ 2 → ⊥) → (w.len ≡ 3 → ⊥) → {row : Row} → Seconds n t w starts deep row
+          → CandidateQuery (record { graph = q.graph; word = x; starts = starts; seconds = row })
+          (record { cap = cap; at = w.len - 1; u = q.second; mask = ends; visited = visited; deep = deep })
+      places_query two three s = record {
+        some = b.some;
+        three = omega (arith, b.two, two, three);
+        place = omega (arith, b.two);
+        candidates = stand;
+        seconds = s;
+      }
+
+    pub places_search : {r : Back} → BackAs cap (ways_from n t starts visited q.second (symbols_back w 1 (w.len - 1))) deep
+        (w.len - (w.len - 1 + 1) + depth_from n t visited q.second (symbols_back w 1 (w.len - 1))) r → Answered q x cap deep r
+    places_search f = answered (back_far (omega (arith, b.two)) f)
+
+  -- no length is sought, and the first symbol leads nowhere
+  pub places_nowhere : w.len ≤ deep + 1 → starts ≡ 0 → {r : Back} → r.count ≡ 0 → r.depth ≡ deep → Answered q x cap deep r
+  places_nowhere l e {r} k d =
+      let visited : ℕ = with_bit (with_bit 0 q.first) q.second in
+      let long : 1 ≤ w.len = omega (arith, b.two) in
+      let f = nowhere l e visited {r = r} k d in
+      record { count = found_count q x long starts b.steps f; depth = found_depth q x long starts f }

@@ -1,10 +1,10 @@
 -- Masks and rows of masks filled party by party: where the loop stands, and what one party more adds. Assumes nothing.
 use Rattle.std.proofs.lemmas.Nat.Bits.{bit_at_not}
-use Rattle.std.proofs.Common.{◌≡◌, ℕ, ◌+◌, ◌-◌, ◌^◌, ◌<◌, ◌≤◌, Bool, true, false, not, ◌&&◌, ◌||◌, eqb, ltb, length, get_or}
-use Rattle.std.proofs.Common.{set, sym, refl, ap, ◌∙◌, ⊎_elim, w32, ltb-true, arith, length-set, get_or-set_other, get_or-set_same, le-ltb, lt-ltb, eq-eqb, ne_eqb}
-use mathlib.Core.Logic.{by_cases}
-use native.Mathlib.Decide.{dec_lt, ℕ_discrete}
-use lib.Bits.{bit_or}
+use Rattle.std.proofs.Common.{◌≡◌, ℕ, ◌+◌, ◌-◌, ◌^◌, ◌<◌, ◌≤◌, Bool, true, false, not, ◌&&◌, ◌||◌, eqb, ltb}
+use Rattle.std.proofs.Common.{length, get_or, set, sym, refl, ap, ◌∙◌, ⊎_elim, w32, ltb-true, arith, length-set}
+use Rattle.std.proofs.Common.{get_or-set_other, get_or-set_same, le-ltb, lt-ltb, eq-eqb, ne_eqb, bit_or}
+use Rattle.std.proofs.Math.Logic.{by_cases}
+use Rattle.std.proofs.Math.Decide.{dec_lt, ℕ_discrete}
 use Rattle.limits.specs.Limits.{most_parties}
 use Rattle.lists.proofs.Cases.{by_test, both, and_false, or_false}
 use Rattle.masks.specs.promises.Mask.{test_bit, with_bit}

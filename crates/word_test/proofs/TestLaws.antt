@@ -1,15 +1,16 @@
 -- The search back of a pair is the word test: the places after the first, read back, are the rest of the word, and the ways to a party
 -- that the first symbol leads to are the pair's paths. Assumes nothing.
-use Rattle.std.proofs.Common.{◌≡◌, ℕ, zero, suc, ◌+◌, ◌-◌, ◌/◌, ◌^◌, ◌<◌, ◌≤◌, min, max, Bool, true, false, ◌||◌, eqb, leb}
-use Rattle.std.proofs.Common.{List, [], ◌∷◌, reverse, length, get_or, take, sym, refl, ap, ◌∙◌, ⊎_elim, arith, take-suc, lt-ltb, le-leb, leb-false}
-use mathlib.Core.List.{reverse-append}
-use lib.Bits.{bit_and}
+use Rattle.std.proofs.Common.{◌≡◌, ℕ, zero, suc, ◌+◌, ◌-◌, ◌<◌, ◌≤◌, min, max, Bool, true, false}
+use Rattle.std.proofs.Common.{◌||◌, eqb, leb, List, [], ◌∷◌, reverse, length, get_or, take, sym, refl}
+use Rattle.std.proofs.Common.{ap, ◌∙◌, arith, take-suc, lt-ltb, le-leb, leb-false}
+use Rattle.std.specs.Int.{from_bool}
+use Rattle.std.proofs.lemmas.List.{reverse-append}
 use Rattle.lists.specs.Lists.{any_of}
 use Rattle.lists.specs.Order.{only_if}
+use Rattle.lists.proofs.Cases.{by_test}
 use Rattle.masks.specs.promises.Mask.{test_bit, with_bit}
 use Rattle.masks.specs.promises.Table.{no_row, mask_at}
 use Rattle.masks.specs.declared.Table.{Table}
-use Rattle.masks.proofs.BitLaws.{bit_cases, and_bit}
 use Rattle.masks.proofs.MaskLaws.{zero_bit}
 use Rattle.rebac.specs.Matter.{pair}
 use Rattle.rebac.specs.Paths.{has, paths_of, path_count}
@@ -132,14 +133,13 @@ module _ (q : PairIn) (x : ShortWord) where
 
   -- one symbol: the pair has the word where it leads from the first party to the second
   pub count_one : w.len ≡ 1 → (cap : ℕ) → 1 ≤ cap → (starts : ℕ) → StepsFrom n (get_or t.rows first no_row) (get_or w.symbols 0 0) starts
-      → bit_and (starts / 2 ^ second) 1 ≡ path_count (table_graph n t) cap (pair first second) (symbols_in w)
-  unfolding path_count count_back symbols_back test_bit
+      → from_bool (test_bit starts second) ≡ path_count (table_graph n t) cap (pair first second) (symbols_in w)
+  unfolding path_count count_back symbols_back
   count_one e cap h starts f =
       let z : w.len - 1 ≡ 0 = omega (arith, e) in
       let p : only_if (test_bit starts second) 1 ≡ length (paths_of (table_graph n t) (pair first second) (symbols_in w)) =
       rw z at (ways_paths (omega (arith, e)) starts f) in
-      and_bit starts second
-      ∙ ⊎_elim (λ b. rw b (omega (arith, rw b at p, h))) (λ b. rw b (omega (arith, rw b at p, h))) (bit_cases starts second)
+      by_test (test_bit starts second) (λ b. rw b (omega (arith, rw b at p, h))) (λ b. rw b (omega (arith, rw b at p, h)))
 
   pub length_one : w.len ≡ 1 → way_length (table_graph n t) (pair first second) (symbols_in w) ≡ 0
   unfolding depth_back symbols_back

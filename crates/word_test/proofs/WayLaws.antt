@@ -1,10 +1,9 @@
 -- Onwards over the places: a party to which no symbol leads from one with a way back has none. A way has another party at each place: where
 -- fewer parties are left than it needs there is none. Assumes nothing.
-use Rattle.std.proofs.Common.{◌≡◌, ℕ, zero, suc, ◌+◌, ◌-◌, ◌<◌, ◌≤◌, true, false, not, ◌&&◌, leb}
-use Rattle.std.proofs.Common.{[], ◌∷◌, length, get_or, take, sym, refl, ap, ◌∙◌, arith, leb-false, leb-true}
-use lib.Bits.{bit_or}
-use lib.Count.{ones}
-use borrow.Author.Tests.{not-true}
+use Rattle.std.proofs.Common.{◌≡◌, ℕ, zero, suc, ◌+◌, ◌-◌, ◌<◌, ◌≤◌, true, false, not, ◌&&◌, leb, [], ◌∷◌, length}
+use Rattle.std.proofs.Common.{get_or, take, sym, refl, ap, ◌∙◌, arith, leb-false, leb-true, bit_or}
+use Rattle.std.specs.Int.Count.{ones}
+use Rattle.std.proofs.lemmas.Bool.{not-true}
 use Rattle.lists.specs.Lists.{range}
 use Rattle.lists.proofs.Cases.{by_test, both, and_left, and_right, or_left, or_right}
 use Rattle.lists.proofs.ListLaws.{any_none, range_out}
@@ -23,7 +22,7 @@ use Rattle.search.proofs.LastLaws.{test_without}
 use Rattle.search.proofs.WalkLaws.{within_with}
 use Rattle.search.proofs.RoomLaws.{count, count_ones, fewer}
 use Rattle.word_test.specs.promises.Backward.{symbols_back, way_from, ways_from, depth_from}
-use Rattle.word_test.specs.promises.Walk.{Onward, Covers, Look, LookQuery}
+use Rattle.word_test.specs.promises.Walk.{Onward, Covers, Look}
 use Rattle.word_test.specs.declared.back.SearchBack.{SearchBack}
 
 -- the symbols of a word read back: how many, and the first of them
@@ -117,7 +116,7 @@ pub record Walked (n : ℕ) (t : Table) (w : Word) (starts from visited parties 
   pub crowded : Crowded n t w starts from visited (at - from) all
 
 -- A look at walks: what a party that is not visited lacks where a mask lacks it.
-module _ {s : SearchBack} {at deep : ℕ} (q : LookQuery s at deep) (visited : ℕ) where
+module _ (s : SearchBack) (at deep visited : ℕ) (some : 1 ≤ at) (place : at < s.word.word.len) where
   abbrev n : ℕ
   n = s.graph.parties
 
@@ -149,7 +148,7 @@ module _ {s : SearchBack} {at deep : ℕ} (q : LookQuery s at deep) (visited : �
       let far : ℕ = depth_from n t (with_bit visited v) v (symbols_back w 1 (at - 1)) in
       by_test (leb k far)
       (λ y.
-      let i : 1 + (at - 1) - k ≡ from = omega (arith, q.some, q.place) in
+      let i : 1 + (at - 1) - k ≡ from = omega arith in
       let on : way_back (table_graph n t) (λ c x. test_bit x c) (λ c x. with_bit x c) (λ c. true) (with_bit visited v) v
       (take k (symbols_back w 1 (at - 1))) ≡ true =
       depth_way (table_graph n t) (λ c x. test_bit x c) (λ c x. with_bit x c) k (symbols_back w 1 (at - 1)) (with_bit visited v) v
@@ -157,8 +156,8 @@ module _ {s : SearchBack} {at deep : ℕ} (q : LookQuery s at deep) (visited : �
       let off = cover v h e visited (λ c z. z) o in
       let same = way_start (table_graph n t) (λ c x. test_bit x c) (λ c x. with_bit x c) (test_bit 4294967295) (λ c. true)
       (λ c z. ones_bit 32 c (omega (arith, s.graph.within, z))) (symbols_back w from k) (with_bit visited v) v h in
-      both (same ∙ rw (back_take w k (at - 1) (omega (arith, q.some, more)), i) at on) off)
-      (λ y. omega (arith, leb-false k far y, q.place))
+      both (same ∙ rw (back_take w k (at - 1) (omega arith), i) at on) off)
+      (λ y. omega (arith, leb-false k far y))
 
   pub look_skips : (mask : ℕ) → Covers n t w starts 1 (at - 1) visited mask → w.len ≤ deep + 1
       → Look n t w at visited starts deep mask
@@ -168,14 +167,8 @@ module _ {s : SearchBack} {at deep : ℕ} (q : LookQuery s at deep) (visited : �
       arith,
       depth_most (table_graph n t) (λ c x. test_bit x c) (λ c x. with_bit x c) (symbols_back w 1 (at - 1)) (with_bit visited v) v,
       back_length w 1 (at - 1),
-      q.some,
-      q.place,
-      l,
     );
   }
-
-  pub look_all : Look n t w at visited starts deep 4294967295
-  look_all v h e o = both (ones_bit 32 v (omega (arith, s.graph.within, h))) e
 
   pub look_both : (near far : ℕ) → Covers n t w starts 1 (at - 1) visited near → deep + 1 < w.len → w.len - deep - 1 ≤ at
       → Covers n t w 4294967295 (w.len - deep - 1) (at - (w.len - deep - 1)) visited far

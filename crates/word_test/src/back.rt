@@ -1,6 +1,5 @@
 // Party search and candidate search call each other, from the word's end to its start.
 ghost use Rattle.std.specs.Prelude.{◌≡◌, ◌≤◌};
-ghost use Rattle.limits.specs.Limits.{word_capacity};
 ghost use Rattle.word_test.specs.promises.Last.{LastTwo};
 
 use crate::step::steps_to;
@@ -9,7 +8,7 @@ use search::{Graph, ShortWord};
 
 // What a search back found: the number of ways, cut at a cap; where there is none, along how many symbols it got.
 // `tried` says how many parties the search entered, short of the last three places.
-// Kept: a count of ways, and numbers that each mean something; no buffer stands beside it.
+// Kept: numbers and no enum: a search adds up counts and keeps the depth in either case; with ways found, the depth is a bound alone.
 #[derive(Clone, Copy)]
 pub struct Back {
     pub count: u32,
@@ -17,21 +16,24 @@ pub struct Back {
     pub tried: u32,
 }
 
-pub fn nothing(depth: usize, tried: u32) -> Back
-    ensures { (result.count ≡ 0) × (result.depth ≡ depth) }
-{
-    Back {
-        count: 0,
-        depth,
-        tried,
+impl Back {
+    // There is no way.
+    pub fn nothing(depth: usize, tried: u32) -> Self
+        ensures count { result.count ≡ 0 }
+        ensures depth { result.depth ≡ depth }
+    {
+        Back {
+            count: 0,
+            depth,
+            tried,
+        }
     }
 }
 
 // The last two steps, from a party to which the second symbol leads from those of the mask. `len` is the word's length.
+// Kept: cap and deep stand apart, here and below: the one falls by the ways found and the other grows, so each call would make both anew.
 pub fn last_two(mask: u32, starts: u32, cap: u32, len: usize, deep: usize) -> Back
-    requires two { 2 ≤ len }
-    requires short { len ≤ word_capacity }
-    requires fits { deep ≤ word_capacity }
+    requires { 2 ≤ len }
     ensures { LastTwo mask starts cap len deep result }
 {
     let far = if mask == 0 { len - 2 } else { len - 1 };
@@ -40,6 +42,18 @@ pub fn last_two(mask: u32, starts: u32, cap: u32, len: usize, deep: usize) -> Ba
         depth: deep.max(far),
         tried: 0,
     }
+}
+
+// Where a search back stands: at party u, of which contracts speak, with the places from `at` down before it; the parties that may come
+// next as a mask, the visited ones, how many ways are still asked for, and the depth that is known.
+#[derive(Clone, Copy)]
+pub struct Position {
+    pub cap: u32,
+    pub at: usize,
+    pub u: usize,
+    pub mask: u32,
+    pub visited: u32,
+    pub deep: usize,
 }
 
 // What stays the same along a search back: the graph, the word, the parties to which its first symbol leads, and for each party those of
@@ -52,6 +66,7 @@ pub struct SearchBack {
     pub seconds: Row,
 }
 
+// Kept: `at` is held to the word in self, as an index to its slice's length; a type for it would carry the word along.
 impl SearchBack {
     ghost use Rattle.std.specs.Prelude.{◌+◌, ◌-◌, ◌<◌, max};
     ghost use Rattle.word_test.specs.promises.Backward.{CandidateQuery, FoundBack};
@@ -69,7 +84,6 @@ impl SearchBack {
     pub fn last_three(&self, mask: u32, visited: u32, cap: u32, deep: usize) -> Back
         requires some { 1 ≤ cap }
         requires three { 3 ≤ self.now.word.word.len }
-        requires fits { deep ≤ word_capacity }
         ensures { LastThree mask self.now.seconds visited self.now.starts cap self.now.graph.parties self.now.word.word.len deep result }
     {
         let len = self.word.word.len;
@@ -77,8 +91,8 @@ impl SearchBack {
         let mut depth = self.passed(2, deep);
         for v in 0..self.graph.parties {
             let c = v as u32;
-            if (mask >> c) & 1 == 1 {
-                let more = visited | (1u32 << c);
+            if masks::has(mask, c) {
+                let more = masks::with(visited, c);
                 let before = (self.seconds.masks[v] | more) ^ more;
                 let f = last_two(before, self.starts, cap - count, len, depth);
                 count += f.count;
@@ -100,53 +114,52 @@ impl SearchBack {
     }
 
     // Kept: the graph goes by value from call to call, which is 01's form; what stays the same goes with it.
-    // From party u back along the places from `at` down, where the mask has the candidates before it.
+    // From a position on.
     #[cycle(candidate_back_party_back)]
-    fn party_back(self, cap: u32, at: usize, u: usize, mask: u32, visited: u32, deep: usize) -> Back
-        requires { CandidateQuery self cap at u mask visited deep }
-        ensures { FoundBack self cap at u visited deep result }
+    fn party_back(self, p: Position) -> Back
+        requires { CandidateQuery self p }
+        ensures { FoundBack self p.cap p.at p.u p.visited p.deep result }
     {
-        self.candidate_back(cap, at, u, mask, visited, deep)
+        self.candidate_back(p)
     }
 
-    // The candidates before party u in ascending order, and from each to the party before: by the last three steps, or where that has a
-    // candidate by a search. Once those that failed have cost more parties than places are left, beside which a look at walks is cheap, a
-    // candidate is skipped from which no way leads to a start and none leads further than one did. The first party is visited from the start.
+    // The candidates of the position in ascending order, and from each to the party before: by the last three steps, or where that has a
+    // candidate by a search. Once those that failed have cost more parties than places are left, beside which a look at walks is cheap,
+    // a candidate is skipped from which no way leads to a start and none leads further than one did.
     #[cycle(candidate_back_party_back)]
-    pub fn candidate_back(
-        self,
-        cap: u32,
-        at: usize,
-        u: usize,
-        mask: u32,
-        visited: u32,
-        deep: usize,
-    ) -> Back
-        requires { CandidateQuery self cap at u mask visited deep }
-        ensures { FoundBack self cap at u visited deep result }
+    pub fn candidate_back(self, p: Position) -> Back
+        requires { CandidateQuery self p }
+        ensures { FoundBack self p.cap p.at p.u p.visited p.deep result }
     {
-        let s = self.word.word.symbols[at - 1];
-        // every party, until walks were looked at
-        let mut onward: u32 = u32::MAX;
+        let s = self.word.symbol(p.at - 1);
+        // the candidates with a walk onward, once walks were looked at
+        let mut onward: Option<u32> = None;
         let mut tried: u32 = 1;
         let mut count: u32 = 0;
-        let mut depth = self.passed(at, deep);
+        let mut depth = self.passed(p.at, p.deep);
         for v in 0..self.graph.parties {
             let c = v as u32;
-            if (mask >> c) & 1 == 0 || (onward >> c) & 1 == 0 {
+            if !masks::has(p.mask, c) || onward.is_some_and(|mask| !masks::has(mask, c)) {
                 continue;
             }
-            let more = visited | (1u32 << c);
+            let more = masks::with(p.visited, c);
             let next = steps_to(&self.graph, s, v, !more);
-            let f = if at == 3 {
-                self.last_three(next, more, cap - count, depth)
+            let f = if p.at == 3 {
+                self.last_three(next, more, p.cap - count, depth)
             } else if next == 0 {
-                nothing(self.passed(at - 1, depth), 1)
+                Back::nothing(self.passed(p.at - 1, depth), 1)
             } else {
-                self.party_back(cap - count, at - 1, v, next, more, depth)
+                self.party_back(Position {
+                    cap: p.cap - count,
+                    at: p.at - 1,
+                    u: v,
+                    mask: next,
+                    visited: more,
+                    deep: depth,
+                })
             };
             count += f.count;
-            if cap <= count {
+            if p.cap <= count {
                 return Back {
                     count,
                     depth,
@@ -155,8 +168,8 @@ impl SearchBack {
             }
             depth = f.depth;
             tried = tried.wrapping_add(f.tried);
-            if onward == u32::MAX && at < tried as usize {
-                onward = self.look(at, visited, depth);
+            if onward.is_none() && p.at < tried as usize {
+                onward = self.look(p.at, p.visited, depth);
             }
         }
         Back {

@@ -1,21 +1,21 @@
 -- Next word by searches: a search over masks is a search for a word of a form, and the least symbol is the first with which it succeeds.
 -- Assumes nothing.
-use mathlib.Core.Path.{◌≡◌, refl, sym, ap, ◌∙◌}
-use mathlib.Core.Bool.{Bool, true, false, ◌&&◌}
-use mathlib.Core.List.{List, [], ◌∷◌, ◌++◌, append_assoc, append-nil, Memᴰ}
-use mathlib.Core.Logic.{by_cases}
-use mathlib.Core.Option.{Option, none, some}
-use Prim.Native.Nat.{ℕ, zero, suc, ◌+◌, ◌-◌, ◌/◌, ◌^◌, ◌≤◌, ◌<◌}
-use native.Mathlib.Decide.{ℕ_discrete}
-use native.Mathlib.Omega.{arith}
-use native.Mathlib.Numerals.{add-one}
-use lib.Dec.{eqb, leb}
-use Rattle.std.specs.Prelude.{Result, MatchOption, Option as Maybe, Some, None, is_ok, is_some as some_given}
-use lib.ListN.{length, replicate, set, take, drop, get_or, length-append, length-replicate}
-use lib.Seq.{take-set-lt, set_at, get_or-take, get_or_at, take-suc, length-take-le}
-use borrow.Author.Tests.{eq-eqb, ne_eqb, eqb-true, le-leb, leb-true}
+use Rattle.std.proofs.Common.{◌≡◌, refl, sym, ap, ◌∙◌, Bool, true, false, ◌&&◌, List, [], ◌∷◌, ◌++◌, append_assoc, append-nil}
+use Rattle.std.proofs.Common.{ℕ, zero, suc, ◌+◌, ◌-◌, ◌/◌, ◌^◌, ◌≤◌, ◌<◌, arith, add-one, eqb, leb, Result}
+use Rattle.std.proofs.Common.{MatchOption, Some, None, is_ok, length, replicate, set, take, drop, get_or, length-append}
+use Rattle.std.proofs.Common.{get_or-take, take-suc, length-take-le, eq-eqb, ne_eqb, eqb-true, le-leb, leb-true}
+use mathlib.Core.List.{Memᴰ}
+use Rattle.std.proofs.Math.Logic.{by_cases}
+use Rattle.std.proofs.Math.Option.{Option, none, some}
+use Rattle.std.proofs.Math.Decide.{ℕ_discrete, dec_lt}
+use Rattle.std.specs.Prelude.{Option as Maybe, is_some as some_given}
+use Rattle.std.specs.Option.{unwrap_or}
+use Rattle.std.proofs.lemmas.List.{length-replicate}
+use Rattle.std.proofs.Math.Seq.{take-set-lt}
+use Rattle.std.proofs.lemmas.List.{set_at, get_or_at}
 use Rattle.lists.specs.Lists.{any_of, first_by, up_from, range}
 use Rattle.lists.proofs.Cases.{by_test, by_found, both, clash, and_left, and_right, and_both}
+use Rattle.lists.proofs.Ranges.{NoneGiven, FirstGiven}
 use Rattle.lists.proofs.ListLaws.{any_in, any_none, find_some, find_in, range_out}
 use Rattle.masks.specs.promises.Mask.{test_bit, bit_at, with_bit}
 use Rattle.masks.specs.promises.Table.{mask_at}
@@ -31,7 +31,7 @@ use Rattle.rebac.proofs.FormLaws.{symbol_none_iff, symbol_below, same_step}
 use Rattle.search.specs.Word.{symbols_in}
 use Rattle.search.specs.promises.Search.{place_on, mask_graph, form_of, FoundAs}
 use Rattle.search.specs.promises.PairSearch.{graph_of, pair_of, search_form}
-use Rattle.words.specs.promises.Next.{Alphabet, Places, WordAs, complete_zeros, LeastPut, CompletedTo}
+use Rattle.words.specs.promises.Next.{Alphabet, Places, WordAs, complete_zeros, SymbolTried, LeastPut, CompletedTo}
 use Rattle.search.specs.declared.word.Word.{Word}
 use Rattle.search.specs.declared.word.ShortWord.{ShortWord}
 use Rattle.search.specs.declared.word.Form.{Form}
@@ -186,10 +186,28 @@ pub place_at : (w : Word) (fixed : List ℕ) (x k : ℕ) {at : ℕ} → Places w
     → get_or w.symbols at 0 ≡ x
 place_at w fixed x k {at} p l h = sym (get_or-take w.len w.symbols at 0 h) ∙ rw p (get_or_at fixed x (replicate k 0) 0 at l)
 
--- where the search for the least symbol stands: the symbol to be tried is from the floor on and not above the least one
-abbrev pub LeastTurn : PairIn → Word → ℕ → ℕ → Type 0
-LeastTurn q w at x = (al fixed : List ℕ) (floor k s : ℕ) → Alphabet al q.graph.parties q.graph.table → Places w fixed floor k
-    → length fixed ≡ at → least_symbol al (graph_of q.graph) (pair_of q) fixed floor k ≡ some s → (floor ≤ x) × (x ≤ s)
+-- the first symbol from the floor on with which a path still exists is the least
+pub least_first : (q : PairIn) (w : ShortWord) {at : ℕ} → at < w.word.len → (r : Maybe ShortWord)
+    → FirstGiven (SymbolTried q w.word at) (get_or w.word.symbols at 0) 32 r → LeastPut q w.word at (unwrap_or r w).word
+least_first q w {at} h None f = record {
+  len = refl;
+  least = λ al fixed floor k s A p l e.
+      let m = least_is q A fixed floor k s e in
+      let from : get_or w.word.symbols at 0 ≤ s = omega (arith, place_at w.word fixed floor k p l h, m.from) in
+      both m.finds ((f s from m.below).1 al fixed floor k A p l);
+}
+least_first q w {at} h (Some t) (x, low, high, g, f) = record {
+  len = g.0;
+  least = λ al fixed floor k s A p l e.
+      let m = least_is q A fixed floor k s e in
+      let start : get_or w.word.symbols at 0 ≡ floor = place_at w.word fixed floor k p l h in
+      let found = g.1 al fixed floor k A p l in
+      by_cases (dec_lt s x)
+      (λ i. both m.finds ((f s (omega (arith, start, m.from)) i).1 al fixed floor k A p l))
+      (λ i. by_cases (ℕ_discrete x s)
+      (λ y. rw y at found.0)
+      (λ y. both found.1 (m.earlier x (omega (arith, start, low)) (omega (arith, i, y)))));
+}
 
 -- where the filling of the places from `done` on stands: those before place i are done
 pub record Filling (al : List ℕ) (q : PairIn) (done : List ℕ) (m : ℕ) (t : Word) (i : ℕ) : Type 0 where
@@ -202,8 +220,8 @@ pub record Filling (al : List ℕ) (q : PairIn) (done : List ℕ) (m : ℕ) (t :
 
 pub record FillTurn (q : PairIn) (w : Word) (from : ℕ) (t : Word) (i : ℕ) : Type 0 where
   pub len : t.len ≡ w.len
-  pub filling : (al done : List ℕ) (m : ℕ) → Alphabet al q.graph.parties q.graph.table → symbols_in w ≡ done ++ replicate m 0 → length done ≡ from
-      → find_form al (graph_of q.graph) (pair_of q) (fixed_then_free done m) ≡ true → Filling al q done m t i
+  pub filling : (al done : List ℕ) (m : ℕ) → Alphabet al q.graph.parties q.graph.table → symbols_in w ≡ done ++ replicate m 0
+      → length done ≡ from → find_form al (graph_of q.graph) (pair_of q) (fixed_then_free done m) ≡ true → Filling al q done m t i
 
 module _ {al : List ℕ} (q : PairIn) (A : Alphabet al q.graph.parties q.graph.table) {done : List ℕ} {m : ℕ} {t : Word} {i : ℕ}
     (h : Filling al q done m t i) (size : length (symbols_in t) ≡ t.len) where
@@ -322,10 +340,6 @@ pub word_not : (o : Option (List ℕ)) (r : Maybe ShortWord) → WordAs o r → 
 word_not o None h f = h
 word_not o (Some w) h f = both refl f
 
-pub word_some : (o : Option (List ℕ)) (r : Maybe ShortWord) → WordAs o r → some_given r ≡ true → (v : List ℕ) × (o ≡ some v)
-word_some o None h f = both f refl
-word_some o (Some w) h f = (symbols_in w.word, h)
-
 pub word_as : (o p : Option (List ℕ)) (r : Maybe ShortWord) → WordAs o r → some_given r ≡ true
     → ((v : List ℕ) → o ≡ some v → p ≡ some v) → WordAs p r
 word_as o p None h f e = both f refl
@@ -352,22 +366,29 @@ module _ (al : List ℕ) (g : Graph ℕ) (p : Pair) where
 pub or_found : (o p : Option (List ℕ)) (v : List ℕ) → o ≡ some v → or_else o p ≡ some v
 or_found o p v e = rw e
 
--- a length that is tried: its zeros, completed, are its least word
-module _ (q : PairIn) (z : Word) (r : Maybe ShortWord) (len j : ℕ) (e : len ≡ suc j) (zeros : symbols_in z ≡ replicate len 0)
-    (c : CompletedTo q z 0 (λ s. s) r) {al : List ℕ} (A : Alphabet al q.graph.parties q.graph.table) (d : ℕ) (h : len ≤ d) where
-  tried : WordAs (complete al (graph_of q.graph) (pair_of q) [] 0 j) r
-  tried = c al [] 0 j A (zeros ∙ ap (λ (k : ℕ). replicate k 0) e) refl
+-- the lengths above k and up to d, one after another
+module _ (al : List ℕ) (g : Graph ℕ) (p : Pair) (d : ℕ) where
+  abbrev above : ℕ → Option (List ℕ)
+  above k = first_longer al g p k (d - k)
 
-  -- the first of the longer words,
-  pub longer_found : some_given r ≡ true → WordAs (first_longer al (graph_of q.graph) (pair_of q) j (d - j)) r
-  longer_found f =
-      word_as (complete al (graph_of q.graph) (pair_of q) [] 0 j) _ r tried f
-      (λ v g. longer_step al (graph_of q.graph) (pair_of q) j d (omega arith) ∙ or_found _ _ v g)
+  -- the least word of j + 1 symbols
+  abbrev pub LeastOfNext : ℕ → Maybe ShortWord → Type 0
+  LeastOfNext j r = WordAs (complete al g p [] 0 (j + 1 - 1)) r
 
-  -- or there is none, and the longer words are those after it
-  pub longer_not : some_given r ≡ false
-      → first_longer al (graph_of q.graph) (pair_of q) j (d - j) ≡ first_longer al (graph_of q.graph) (pair_of q) len (d - len)
-  longer_not f =
-      let one : len ≡ j + 1 = omega arith in
-      longer_step al (graph_of q.graph) (pair_of q) j d (omega arith)
-      ∙ rw (word_not (complete al (graph_of q.graph) (pair_of q) [] 0 j) r tried f, one)
+  of_next : (j : ℕ) (r : Maybe ShortWord) → LeastOfNext j r → WordAs (complete al g p [] 0 j) r
+  of_next j r h = let e : j + 1 - 1 ≡ j = omega arith in rw e at h
+
+  none_above : (k i j : ℕ) → k + i ≡ j → j ≤ d → NoneGiven LeastOfNext k j → above k ≡ above j
+  none_above k zero j e h f = let same : j ≡ k = omega (arith, e) in rw same
+  none_above k (suc i) j e h f =
+      let next : k + i + 1 ≡ j = omega (arith, e) in
+      none_above k i (k + i) refl (omega (arith, e)) (λ x a b. f x a (omega (arith, e)))
+      ∙ longer_step al g p (k + i) d (omega (arith, e))
+      ∙ rw (of_next (k + i) None (f (k + i) (omega arith) (omega (arith, e))), next)
+
+  pub longer_given : (k : ℕ) → k ≤ d → (r : Maybe ShortWord) → FirstGiven LeastOfNext k d r → WordAs (above k) r
+  longer_given k h None f = none_above k (d - k) d (omega arith) (omega arith) f ∙ longer_end al g p d d (omega arith)
+  longer_given k h (Some w) (j, low, high, x, f) =
+      none_above k (j - k) j (omega arith) (omega arith) f
+      ∙ longer_step al g p j d high
+      ∙ or_found _ _ (symbols_in w.word) (of_next j (Some w) x)

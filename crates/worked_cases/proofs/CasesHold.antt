@@ -1,12 +1,9 @@
 -- Cases A to J: what the definitions give for each row is what the row expects, by computation over the list of rows. Assumes nothing.
-use Prim.Native.Nat.{ℕ, ◌<◌}
-use mathlib.Core.Path.{◌≡◌, refl, ap, ◌∙◌}
+use Rattle.std.proofs.Common.{ℕ, ◌<◌, ◌≡◌, refl, ap, ◌∙◌, List, [], ◌∷◌, map, length, Result, Ok, Err}
+use Rattle.std.proofs.lemmas.Bool.{lt-leb}
 use mathlib.Core.List.Memᴰ
-use mathlib.Core.List.{List, [], ◌∷◌, map, Memᴰ}
-use mathlib.Core.Option.{Option, none, some}
-use lib.ListN.{length}
-use borrow.Author.Tests.{lt-leb}
-use Rattle.std.specs.Prelude.{Result, Ok, Err}
+use mathlib.Core.List.{Memᴰ}
+use Rattle.std.proofs.Math.Option.{Option, none, some}
 use Rattle.lists.specs.Lists.{all_of, any_of, filter_by, first_by, flat_map, up_from, range}
 use Rattle.lists.proofs.Cases.{by_mem}
 use Rattle.rebac.specs.Matter.{Matter, pairs_of, permitted}
@@ -87,7 +84,8 @@ pub same_at : {A B : Type 0} (f g : A → B) (l : List A) → map f l ≡ map g 
 same_at f g [] e m = absurd (Memᴰ.not-nil m)
 same_at f g (y ∷ ys) e m = by_mem m (λ q. rw q cc) (λ n. same_at f g ys (cc) n)
 
-if_convertible_lem : {A : Type 0} {r : Result Verdict Refusal} {k : ℕ} {x y : A} → r ≡ Ok (Convertible k) → if_convertible r x ≡ if_convertible r y → x ≡ y
+if_convertible_lem : {A : Type 0} {r : Result Verdict Refusal} {k : ℕ} {x y : A} → r ≡ Ok (Convertible k)
+    → if_convertible r x ≡ if_convertible r y → x ≡ y
 if_convertible_lem {x = x} {y = y} q e = let s : some x ≡ some y = rw q at e in cc
 
 row_holds : (c : CaseRow) → reckoned c ≡ expected c → RowHolds c

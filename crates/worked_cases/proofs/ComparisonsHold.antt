@@ -1,6 +1,6 @@
 -- The comparisons worked by hand, by computation over the list of rows. Assumes nothing.
-use mathlib.Core.Path.{◌≡◌, refl}
-use mathlib.Core.List.{map, Memᴰ}
+use Rattle.std.proofs.Common.{◌≡◌, refl, map}
+use mathlib.Core.List.{Memᴰ}
 use Rattle.lists.specs.Lists.{all_of, any_of, filter_by, first_by, flat_map, up_from, range}
 use Rattle.fields.specs.Numbers.{u16_at}
 use Rattle.rebac.specs.Matter.{pairs_of, permitted}
@@ -20,10 +20,10 @@ use Rattle.worked_cases.proofs.CasesHold.{same_at}
 
 replies : map (λ c. compare_call c.file c.list) compared_lists ≡ map (λ c. c.reply) compared_lists
 unfolding all_of any_of filter_by first_by flat_map up_from range u16_at pairs_of permitted candidates routes paths_of has
-    kinds kind_holds apart in_language holds
-    has_all permits_pair record_size owner_in record_of fields_in_range judge_record says record_check follow_chain follow_chains chains_check check_of
-    chain_from chain_of recorded is_edge is_permitted matter_of legal_symbol decode_count decode_many legal_word decode_word decode_term decode_terms
-    decode_list only_file only_list differ first_difference comparison compare_in compare_call
+    kinds kind_holds apart in_language holds has_all permits_pair record_size owner_in record_of fields_in_range judge_record says
+    record_check follow_chain follow_chains chains_check check_of chain_from chain_of recorded is_edge is_permitted matter_of legal_symbol
+    decode_count decode_many legal_word decode_word decode_term decode_terms decode_list only_file only_list differ first_difference
+    comparison compare_in compare_call
 replies = refl
 
 told : map (λ c. said_compare c.reply) compared_lists ≡ map (λ c. c.said) compared_lists

@@ -1,9 +1,6 @@
 -- The copies worked by hand, by computation; what is too short follows from the theorem on the call. Assumes nothing.
-use native.Mathlib.Omega.{arith}
-use mathlib.Core.Path.{◌≡◌, refl}
-use mathlib.Core.List.{map, Memᴰ}
-use lib.ListN.{length}
-use Rattle.std.specs.Prelude.{Ok}
+use Rattle.std.proofs.Common.{arith, ◌≡◌, refl, map, length, Ok}
+use mathlib.Core.List.{Memᴰ}
 use Rattle.lists.specs.Lists.{all_of, any_of, filter_by, flat_map, up_from, range}
 use Rattle.fields.specs.Numbers.{u16_at, u16_bytes}
 use Rattle.house_layout.specs.Layout.{record_size, owner_in, record_of}
@@ -28,8 +25,8 @@ accepted = refl
 written : map (λ c. write_call c.file (length c.copy)) copied_files ≡ map (λ c. writes c.copy) copied_files
 unfolding all_of any_of up_from u16_at record_size owner_in record_of fields_in_range judge_record
     says record_check follow_chain follow_chains chains_check check_of filter_by
-    flat_map range u16_bytes chain_from chain_of recorded is_edge is_permitted matter_of kind_bytes says_kind pair_entries entries_of entries_below
-    chain_records records_for header_bytes heads_by record_bytes canonical_of write_in write_call
+    flat_map range u16_bytes chain_from chain_of recorded is_edge is_permitted matter_of kind_bytes says_kind pair_entries entries_of
+    entries_below chain_records records_for header_bytes heads_by record_bytes canonical_of write_in write_call
 written = refl
 
 copied_accepted : {c : CopiedFile} → Memᴰ c copied_files → check_of c.file ≡ Ok tt

@@ -1,13 +1,7 @@
 -- Case A's file and refused files, by computation: the file's matter is row A's, so the rows' theorem gives the rest. Assumes nothing.
-use Prim.Native.Nat.{ℕ, zero, suc, ◌≤◌}
-use native.Mathlib.Omega.{arith}
-use mathlib.Core.Path.{◌≡◌, refl, ◌∙◌}
-use mathlib.Core.Bool.{true, false}
-use mathlib.Core.List.{List, [], ◌∷◌, ◌++◌, map, Memᴰ, append-nil}
-use lib.ListN.{length}
-use lib.Dec.{eqb, ltb}
-use borrow.Author.Tests.{eqb-true, le-ltb, ne_eqb}
-use Rattle.std.specs.Prelude.{Ok, Err}
+use Rattle.std.proofs.Common.{ℕ, zero, suc, ◌≤◌, arith, ◌≡◌, refl, ◌∙◌, true, false, List, [], ◌∷◌, ◌++◌}
+use Rattle.std.proofs.Common.{map, append-nil, length, eqb, ltb, eqb-true, le-ltb, ne_eqb, Ok, Err}
+use mathlib.Core.List.{Memᴰ}
 use Rattle.lists.specs.Lists.{all_of, any_of, up_from}
 use Rattle.lists.proofs.Cases.{and_false}
 use Rattle.lists.proofs.ListLaws.{all_in, any_out}

@@ -2,7 +2,6 @@
 use Rattle.std.specs.Prelude.{Some}
 use Rattle.std.specs.Prelude.{ℕ, ◌+◌, ◌*◌, ◌-◌, ◌≤◌, ◌<◌, ◌≡◌, true, List, map, length, get_or}
 use Rattle.lists.specs.Lists.{filter_by, flat_map}
-use Rattle.limits.specs.Limits.{most_parties, most_labels}
 use Rattle.masks.specs.promises.Mask.{test_bit}
 use Rattle.masks.specs.promises.Table.{mask_at}
 use Rattle.masks.specs.declared.Table.{Table}
@@ -13,10 +12,11 @@ use Rattle.house_layout.specs.promises.Kinds.{permit_bit, bit_of}
 use Rattle.house_layout.specs.declared.header.Header.{Header}
 use Rattle.house_layout.specs.declared.record.Record.{Record}
 use Rattle.canonical.specs.Canonical.{Entry, entry, kind_bytes, says_kind, first_of, chain_records, record_bytes}
-use Rattle.canonical.specs.Canonical.{entries_of, count_of, written_edition}
+use Rattle.canonical.specs.Canonical.{count_of, written_edition}
 use Rattle.canonical.specs.Shape.{InLimits}
 use Rattle.canonical.specs.declared.count.Firsts.{Firsts}
-use Rattle.canonical.specs.declared.write.Chain.{Chain}
+use Rattle.canonical.specs.declared.matter.MatterIn.{MatterIn}
+use Rattle.canonical.specs.declared.chain.Chain.{Chain}
 
 -- the matter that the header's numbers and the masks of kinds say
 abbrev pub matter_in : Header → Table → Matter
@@ -28,6 +28,9 @@ matter_in h k = record {
   edge = λ u v l. test_bit (mask_at k u v) l;
   permit = λ u v. test_bit (mask_at k u v) permit_bit;
 }
+
+abbrev pub matter_by : MatterIn → Matter
+matter_by m = matter_in m.header m.masks.now
 
 -- the header's numbers and the masks of kinds stand for the matter
 pub record Stands (M : Matter) (h : Header) (k : Table) : Type 0 where
@@ -57,12 +60,6 @@ numbers_in f u = get_or f.numbers u 0
 abbrev pub FirstsOf : Matter → Firsts → Type 0
 FirstsOf M f = (u : ℕ) → u ≤ M.parties → numbers_in f u ≡ first_of M u
 
--- the header's numbers and a party are within 01's limits
-pub record PartyLimits (h : Header) (u : ℕ) : Type 0 where
-  pub parties : h.parties ≤ most_parties
-  pub labels : h.labels ≤ most_labels
-  pub party : u < most_parties
-
 -- numbers that fit their bytes, and room for them in an output of this size: one record at a place, whether it has an owner byte or not,
 pub record RecordFits (x : Record) (at size : ℕ) : Type 0 where
   pub target : x.target < 256
@@ -72,21 +69,12 @@ pub record RecordFits (x : Record) (at size : ℕ) : Type 0 where
   pub room : at + owned_record ≤ size
 
 -- one pair's records from `number` on, in a chain,
-pub record PairFits (c : Chain) (target labels mask number size : ℕ) : Type 0 where
+pub record PairFits (c : Chain) (target mask number size : ℕ) : Type 0 where
   pub parties : (c.owner < 256) × (target < 256)
-  pub bounded : labels ≤ most_labels
   pub first : 1 ≤ number
-  pub kinds : number + length (kinds_in labels mask) ≤ c.end
+  pub kinds : number + length (kinds_in c.kinds.labels mask) ≤ c.end
   pub last : c.end < 65536
   pub room : c.base + owned_record * (c.end - 1) ≤ size
-
--- party u's records,
-pub record PartyFits (h : Header) (k : Table) (u number end size : ℕ) : Type 0 where
-  pub limits : PartyLimits h u
-  pub first : 1 ≤ number
-  pub entries : number + length (entries_of (matter_in h k) u) ≤ end
-  pub last : end < 65536
-  pub room : head_place h.parties + owned_record * (end - 1) ≤ size
 
 -- the header,
 pub record HeaderFits (h : Header) (size : ℕ) : Type 0 where
@@ -98,19 +86,14 @@ pub record HeaderFits (h : Header) (size : ℕ) : Type 0 where
   pub records : h.records < 65536
   pub room : header_size ≤ size
 
--- the heads,
-pub record HeadsFit (parties : ℕ) (f : Firsts) (size : ℕ) : Type 0 where
-  pub bounded : parties ≤ most_parties
-  pub numbers : (u : ℕ) → u ≤ parties → numbers_in f u < 65536
-  pub room : head_place parties ≤ size
+-- and the whole file
+abbrev pub FileFits : MatterIn → ℕ → Type 0
+FileFits m size = head_place m.header.parties + owned_record * m.header.records ≤ size
 
--- and the whole file, whose header has the edition that is written and its number of records
-pub record FileFits (h : Header) (k : Table) (f : Firsts) (size : ℕ) : Type 0 where
-  pub edition : h.edition ≡ written_edition
-  pub parties : h.parties ≤ most_parties
-  pub labels : h.labels ≤ most_labels
-  pub language : h.language < 256
-  pub longest : h.longest < 256
-  pub records : h.records ≡ count_of (matter_in h k)
-  pub firsts : FirstsOf (matter_in h k) f
-  pub room : head_place h.parties + owned_record * h.records ≤ size
+-- the header that is written, with the edition and the number of records, and the numbers of the first records
+pub record Written (m : MatterIn) (f : Firsts) : Type 0 where
+  pub edition : m.header.edition ≡ written_edition
+  pub language : m.header.language < 256
+  pub longest : m.header.longest < 256
+  pub records : m.header.records ≡ count_of (matter_by m)
+  pub firsts : FirstsOf (matter_by m) f

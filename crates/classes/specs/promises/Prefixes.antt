@@ -1,5 +1,5 @@
 -- The first telling word of a length over a graph in letters, by prefixes: what the functions need, and what they promise each other.
-use Rattle.std.specs.Prelude.{ℕ, ◌+◌, ◌-◌, ◌≤◌, ◌<◌, ◌≡◌, false, List, ◌∷◌, ◌++◌, map, length, get_or, replicate}
+use Rattle.std.specs.Prelude.{ℕ, ◌+◌, ◌-◌, ◌≤◌, ◌<◌, ◌≡◌, false, List, ◌∷◌, ◌++◌, map, length, replicate}
 use Rattle.std.specs.Prelude.{MatchOption, None, Some, Option as Maybe}
 use Rattle.std.proofs.Math.Option.{Option}
 use Rattle.lists.specs.Lists.{first_by, up_from}
@@ -41,8 +41,8 @@ Closed g p fixed k c = (rest : List ℕ) → length rest ≡ k → has g p (fixe
 -- what is needed: to seek along letters below `high`, for which those from there on are the classes, if there are any,
 pub record SeekQuery (s : PairsInLetters) (w : Word) (at high : ℕ) : Type 0 where
   pub place : at ≤ w.len
-  pub order : high ≤ s.end
-  pub classed : high < s.end → Classed (graph_of s.pairs.graph) high s.end
+  pub order : high ≤ s.span.end
+  pub classed : high < s.span.end → Classed (graph_of s.pairs.graph) high s.span.end
 
 -- for the first telling word of so many symbols, by the pair's words one after another,
 pub record WordsQuery (q : TwoPairsIn) (len : ℕ) : Type 0 where
@@ -50,14 +50,10 @@ pub record WordsQuery (q : TwoPairsIn) (len : ℕ) : Type 0 where
   pub long : len ≤ longest_word
   pub alphabet : (al : List ℕ) × Alphabet al q.graph.parties q.graph.table
 
--- for the first telling word of more symbols,
+-- and for the first telling word of more symbols
 pub record TellingQuery (q : TwoPairsIn) (d : ℕ) : Type 0 where
   pub long : d ≤ longest_word
   pub alphabet : (al : List ℕ) × Alphabet al q.graph.parties q.graph.table
-
--- and to read a word of letters as symbols
-abbrev pub SymbolsQuery : List ℕ → Word → Type 0
-SymbolsQuery symbols w = (i : ℕ) → i < w.len → get_or symbols (get_or w.symbols i 0) 0 < symbol_count
 
 -- what is promised: the pairs in the letters' graph,
 pub record Over (q : TwoPairsIn) (l : Letters) (r : PairsInLetters) : Type 0 where
@@ -67,8 +63,8 @@ pub record Over (q : TwoPairsIn) (l : Letters) (r : PairsInLetters) : Type 0 whe
   pub second : r.pairs.second ≡ q.second
   pub u : r.pairs.u ≡ q.u
   pub v : r.pairs.v ≡ q.v
-  pub base : r.base ≡ l.base
-  pub end : r.end ≡ l.end
+  pub base : r.span.base ≡ l.span.base
+  pub end : r.span.end ≡ l.span.end
 
 -- a mask outside of which no letter from `low` to below `high` may stand at place `at`,
 abbrev pub Opens : TwoPairsIn → Word → ℕ → ℕ → ℕ → ℕ → Type 0

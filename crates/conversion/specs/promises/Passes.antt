@@ -5,12 +5,10 @@ use Rattle.limits.specs.Limits.{most_parties, pair_numbers}
 use Rattle.masks.specs.promises.Mask.{test_bit}
 use Rattle.masks.specs.promises.Table.{mask_in}
 use Rattle.masks.specs.declared.Row.{Row}
-use Rattle.rebac.specs.Matter.{Matter}
 use Rattle.rebac.specs.Mining.{mine}
 use Rattle.rebac.specs.Verdict.{verdict}
 use Rattle.rebac.specs.Existence.{plain_list}
-use Rattle.graph.specs.declared.Archive.{Archive}
-use Rattle.graph.specs.promises.Archive.{Shows}
+use Rattle.graph.specs.declared.archive.Archive.{Archive}
 use Rattle.rule_bytes.specs.ListBytes.{encode_list}
 use Rattle.mining.specs.promises.Building.{problem_in}
 use Rattle.mining.specs.promises.Taking.{PairMarks}
@@ -35,10 +33,9 @@ archive_verdict a = verdict_reply (length (archive_bytes a)) (verdict (problem_i
 abbrev pub longest_term : ℕ
 longest_term = 31778
 
--- what the verdict needs: an archive that shows a matter, and in a slice of this size room for a term at the limit, or for the list
-pub record JudgeRoom (a : Archive) (limit size : ℕ) : Type 0 where
-  pub shown : (M : Matter) × Shows M a
-  pub room : (limit + longest_term ≤ size) ⊎ (length (archive_bytes a) ≤ size)
+-- what the verdict needs: in a slice of this size room for a term at the limit, or for the list
+abbrev pub JudgeRoom : Archive → ℕ → ℕ → Type 0
+JudgeRoom a limit size = (limit + longest_term ≤ size) ⊎ (length (archive_bytes a) ≤ size)
 
 -- the archive's list at the start of a slice, and its marks
 pub record ListWritten (a : Archive) (old new : List ℕ) (row : Row) : Type 0 where
@@ -59,9 +56,8 @@ JudgedAs a limit old new (Err h) = Ok (verdict_by h.pair h.obstacle) ≡ archive
 abbrev pub kept_list : ℕ
 kept_list = 65536
 
--- what writing the list needs: a convertible archive that shows a matter, its list and marks where they are kept, and room in an output
+-- what writing the list needs: a convertible archive, its list and marks where they are kept, and room in an output
 pub record ListRoom (a : Archive) (list : List ℕ) (j : Judged) (output : ℕ) : Type 0 where
-  pub shown : (M : Matter) × Shows M a
   pub verdict : Ok (Convertible j.size) ≡ archive_verdict a
   pub kept : j.size ≤ kept_list → (old : List ℕ) × ListWritten a old list j.marks
   pub room : j.size ≤ output

@@ -1,5 +1,5 @@
 -- What the functions that read a file promise each other: marks stand for the records reached, a row for the kinds of a chain.
-use Rattle.std.specs.Prelude.{ℕ, ◌-◌, ◌≤◌, ◌<◌, ◌≡◌, true, not, List, [], ◌++◌, length, get_or, Result, Ok, Err, eqb}
+use Rattle.std.specs.Prelude.{ℕ, ◌-◌, ◌≤◌, ◌≡◌, true, not, List, [], ◌++◌, length, get_or, Result, Ok, Err, eqb}
 use Rattle.lists.specs.Lists.{any_of, member}
 use Rattle.limits.specs.Limits.{most_parties, most_labels, most_records}
 use Rattle.masks.specs.promises.Mask.{test_bit}
@@ -21,12 +21,6 @@ pub record Framed (f : List ℕ) (h : Header) : Type 0 where
   pub labels : h.labels ≤ most_labels
   pub records : h.records ≤ most_records
   pub size : length f ≡ size_of f
-
--- party u's chain in such a file, and marks with a place for each record
-pub record ChainThere (f : List ℕ) (h : Header) (u : ℕ) (marks : List ℕ) : Type 0 where
-  pub framed : Framed f h
-  pub party : u < h.parties
-  pub places : length marks ≡ most_records
 
 -- record r's mark is at r - 1; it is not 0 exactly where r was reached
 abbrev pub RecordMarks : List ℕ → List ℕ → Type 0

@@ -3,6 +3,7 @@
 use Rattle.std.specs.Prelude.{ℕ, ◌≤◌, ◌<◌, ◌≡◌, true, List, map, get_or}
 use Rattle.limits.specs.Limits.{symbol_count}
 use Rattle.rebac.specs.Paths.{Graph}
+use Rattle.search.specs.declared.symbol.Symbol.{Symbol}
 
 -- letter j is a class that holds from u to v: where it holds, all letters below `base` hold that do from u to v
 pub record Class (g : Graph ℕ) (base end u v j : ℕ) : Type 0 where
@@ -16,6 +17,10 @@ pub record Class (g : Graph ℕ) (base end u v j : ℕ) : Type 0 where
 abbrev pub Classed : Graph ℕ → ℕ → ℕ → Type 0
 Classed g base end =
     (u v i : ℕ) → u < g.parties → v < g.parties → i < base → g.edge u v i ≡ true → (j : ℕ) × Class g base end u v j
+
+-- the symbols' numbers
+abbrev pub numbers : List Symbol → List ℕ
+numbers symbols = map (λ s. s.number) symbols
 
 -- a letter below `base` as the symbol it stands for, and a word of such letters
 abbrev pub letter_symbol : List ℕ → ℕ → ℕ

@@ -8,7 +8,7 @@ use Rattle.masks.specs.promises.Table.{no_row, mask_in, mask_at}
 use Rattle.masks.specs.declared.Row.{Row}
 use Rattle.masks.specs.declared.Table.{Table}
 use Rattle.search.specs.promises.PairSearch.{table_graph}
-use Rattle.letters.specs.promises.Letters.{Lettered, InClasses}
+use Rattle.letters.specs.promises.Letters.{numbers, Lettered, InClasses}
 use Rattle.letters.specs.declared.least.Least.{Least}
 use Rattle.letters.specs.declared.different.Classes.{Classes}
 use Rattle.letters.specs.declared.legend.Legend.{Legend}
@@ -36,10 +36,10 @@ pub record StandsFor (g : Table) (symbols : List ℕ) (count s i : ℕ) : Type 0
 pub record LeastOf (g : Table) (s : ℕ) (l : Least) : Type 0 where
   pub full : length l.symbols ≡ symbol_count
   pub fits : l.count ≤ s
-  pub below : (i : ℕ) → i < l.count → get_or l.symbols i 0 < s
-  pub ascending : (i j : ℕ) → i < j → j < l.count → get_or l.symbols i 0 < get_or l.symbols j 0
+  pub below : (i : ℕ) → i < l.count → get_or (numbers l.symbols) i 0 < s
+  pub ascending : (i j : ℕ) → i < j → j < l.count → get_or (numbers l.symbols) i 0 < get_or (numbers l.symbols) j 0
   pub stands : (k x : ℕ) → k < pair_numbers → x < s → test_bit (pair_mask g k) x ≡ true
-      → (i : ℕ) × StandsFor g l.symbols l.count x i
+      → (i : ℕ) × StandsFor g (numbers l.symbols) l.count x i
 
 -- the same of all symbols, which are below 32
 pub record AllLeast (g : Table) (l : Least) : Type 0 where
@@ -72,7 +72,7 @@ letter_on symbols base classes mask i =
 
 -- the letters of the legend that hold for a pair with this mask
 abbrev pub LettersIn : Legend → ℕ → ℕ → Type 0
-LettersIn l mask r = (i : ℕ) → test_bit r i ≡ (ltb i l.end && letter_on l.symbols l.base l.classes mask i)
+LettersIn l mask r = (i : ℕ) → test_bit r i ≡ (ltb i l.span.end && letter_on (numbers l.symbols) l.span.base l.classes mask i)
 
 -- the first k masks of a row are written in letters
 abbrev pub RowWritten : Legend → Row → ℕ → Row → Type 0
@@ -84,16 +84,16 @@ Written l g k r = (u : ℕ) → u < k → RowWritten l (get_or g.rows u no_row) 
 
 -- the graph in the legend's letters, of which words have those below b
 pub record InLetters (g : Table) (l : Legend) (b : ℕ) (r : Letters) : Type 0 where
-  pub base : r.base ≡ b
-  pub end : r.end ≡ l.end
+  pub base : r.span.base ≡ b
+  pub end : r.span.end ≡ l.span.end
   pub symbols : r.symbols ≡ l.symbols
   pub written : Written l g most_parties r.graph
 
 -- the graph in letters for symbols, and classes
 abbrev pub LettersMade : Table → Letters → Type 0
-LettersMade g r = (n : ℕ) → n ≤ most_parties → Lettered (table_graph n g) (table_graph n r.graph) r.symbols r.base r.end
+LettersMade g r = (n : ℕ) → n ≤ most_parties → Lettered (table_graph n g) (table_graph n r.graph) (numbers r.symbols) r.span.base r.span.end
 
 -- the graph in classes alone
 pub record ClassesMade (g : Table) (r : Letters) : Type 0 where
-  pub alone : r.base ≡ r.end
-  pub in_classes : (n : ℕ) → n ≤ most_parties → InClasses (table_graph n g) (table_graph n r.graph) r.end
+  pub alone : r.span.base ≡ r.span.end
+  pub in_classes : (n : ℕ) → n ≤ most_parties → InClasses (table_graph n g) (table_graph n r.graph) r.span.end

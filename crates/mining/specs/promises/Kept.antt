@@ -1,23 +1,23 @@
 -- The first words of a pair, kept as the bytes of a term; and what seeking the first word that another pair lacks promises.
-use Rattle.std.specs.Prelude.{ℕ, ◌+◌, ◌*◌, ◌≤◌, ◌<◌, ◌≡◌, ◌&&◌, List, [], ◌∷◌, length, Result, Ok, Err}
-use Rattle.std.specs.Prelude.{Option as Maybe}
 use Rattle.std.proofs.Math.Option.{Option, some}
+use Rattle.std.specs.Prelude.{ℕ, ◌+◌, ◌*◌, ◌≤◌, ◌<◌, ◌≡◌, ◌&&◌, List, [], ◌∷◌, length, Some, Result, Ok, Err, Option as Maybe}
 use Rattle.lists.specs.Lists.{first_by}
-use Rattle.rebac.specs.Matter.{Matter, Pair, IsPair}
+use Rattle.rebac.specs.Matter.{Matter, Pair}
 use Rattle.rebac.specs.Words.{Word, before}
 use Rattle.rebac.specs.Existence.{problem_of}
 use Rattle.rebac.specs.Mining.{lacks}
 use Rattle.rebac.specs.NextWord.{pair_words, next_word}
-use Rattle.graph.specs.declared.Archive.{Archive}
+use Rattle.fields.specs.promises.Writing.{put}
+use Rattle.graph.specs.declared.archive.Archive.{Archive}
 use Rattle.graph.specs.promises.Archive.{Shows}
 use Rattle.search.specs.Word.{symbols_in}
 use Rattle.search.specs.declared.word.Word.{Word as WordValue}
 use Rattle.search.specs.declared.word.ShortWord.{ShortWord}
 use Rattle.words.specs.promises.Next.{WordAs}
-use Rattle.fields.specs.promises.Writing.{put}
 use Rattle.rule_bytes.specs.ListBytes.{encode_term}
-use Rattle.mining.specs.promises.Building.{TwoPairs}
+use Rattle.mining.specs.Values.{pair_in}
 use Rattle.mining.specs.declared.kept.Kept.{Kept}
+use Rattle.mining.specs.declared.pairs.TwoPairs.{TwoPairs}
 
 -- so many words are kept at most, and their bytes: a count, and a length byte and 31 symbols for each word
 abbrev pub most_kept : ℕ
@@ -66,40 +66,33 @@ first_lacked M p q = first_by (lacks (problem_of M) p q) (pair_words M p)
 abbrev pub HadTo : Matter → Pair → Pair → Word → Type 0
 HadTo M p q w = first_lacked M p q ≡ first_by (λ v. before w v && lacks (problem_of M) p q v) (pair_words M p)
 
--- two pairs of an archive that shows a matter, and a word up to which the second has every word of the first
-pub record HadQuery (a : Archive) (p q : Pair) (w : WordValue) : Type 0 where
-  pub pairs : TwoPairs a p q
-  pub within : w.len ≤ a.longest
-  pub had : (M : Matter) → Shows M a → HadTo M p q (symbols_in w)
+-- the first word of the one pair's that the other lacks
+abbrev pub FirstLackedAs : TwoPairs → Maybe ShortWord → Type 0
+FirstLackedAs t r = (M : Matter) → Shows M t.own.archive.now → WordAs (first_lacked M (pair_in t.own.pair) (pair_in t.other)) r
 
--- what seeking among the kept words needs, and what it promises: a kept word that q lacks is the first that it lacks;
+-- what seeking on after a word needs: the other pair has every word of the one up to it
+pub record HadQuery (t : TwoPairs) (w : WordValue) : Type 0 where
+  pub within : w.len ≤ t.own.archive.now.words.longest
+  pub had : (M : Matter) → Shows M t.own.archive.now → HadTo M (pair_in t.own.pair) (pair_in t.other) (symbols_in w)
+
+-- what seeking among the kept words promises: a kept word that the other pair lacks is the first that it lacks;
 -- where it has all, the last one is handed out, or the empty word where none is kept
-pub record AmongQuery (a : Archive) (q : Pair) (k : Kept) : Type 0 where
-  pub other : IsPair a.parties q
-  pub shown : (M : Matter) × Shows M a
-  pub kept : (p : Pair) × SomeKept a p k
-
-pub record LackedKept (a : Archive) (p q : Pair) (w : WordValue) : Type 0 where
-  pub within : w.len ≤ a.longest
-  pub lacked : (M : Matter) → Shows M a → first_lacked M p q ≡ some (symbols_in w)
-
-pub record AllKept (a : Archive) (p q : Pair) (words : List Word) (w : WordValue) : Type 0 where
-  pub within : w.len ≤ a.longest
+pub record AllKept (t : TwoPairs) (words : List Word) (w : WordValue) : Type 0 where
+  pub query : HadQuery t w
   pub last : symbols_in w ≡ last_of [] words
-  pub had : (M : Matter) → Shows M a → HadTo M p q (symbols_in w)
 
-abbrev pub AmongKept : Archive → Pair → Pair → List Word → Result ShortWord ShortWord → Type 0
-AmongKept a p q words (Ok w) = LackedKept a p q w.word
-AmongKept a p q words (Err w) = AllKept a p q words w.word
+abbrev pub AmongKept : TwoPairs → List Word → Result ShortWord ShortWord → Type 0
+AmongKept t words (Ok w) = FirstLackedAs t (Some w)
+AmongKept t words (Err w) = AllKept t words w.word
 
--- what seeking on from the last kept word needs: q has it and all before it
-pub record OnwardQuery (a : Archive) (p q : Pair) (k : Kept) (w : WordValue) : Type 0 where
-  pub query : HadQuery a p q w
+-- what seeking on from the last kept word needs: the other pair has it and all before it
+pub record OnwardQuery (t : TwoPairs) (k : Kept) (w : WordValue) : Type 0 where
+  pub query : HadQuery t w
   pub words : List Word
-  pub kept : KeptAs a p words k
+  pub kept : KeptAs t.own.archive.now (pair_in t.own.pair) words k
   pub last : symbols_in w ≡ last_of [] words
 
 -- what seeking a first lacked word promises: the word, where there is one, and the words kept then
-pub record LackedAs (a : Archive) (p q : Pair) (r : Maybe ShortWord) (k : Kept) : Type 0 where
-  pub next : (M : Matter) → Shows M a → WordAs (first_lacked M p q) r
-  pub kept : SomeKept a p k
+pub record LackedAs (t : TwoPairs) (r : Maybe ShortWord) (k : Kept) : Type 0 where
+  pub next : FirstLackedAs t r
+  pub kept : SomeKept t.own.archive.now (pair_in t.own.pair) k

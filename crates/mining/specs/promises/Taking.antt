@@ -4,13 +4,12 @@ use Rattle.limits.specs.Limits.{most_parties, pair_numbers}
 use Rattle.masks.specs.promises.Mask.{test_bit}
 use Rattle.masks.specs.promises.Table.{mask_in}
 use Rattle.masks.specs.declared.Row.{Row}
-use Rattle.rebac.specs.Matter.{Matter, Pair, pair}
+use Rattle.rebac.specs.Matter.{Pair, pair}
 use Rattle.rebac.specs.Words.{Word}
 use Rattle.rebac.specs.Rules.{RuleList, permits}
 use Rattle.rebac.specs.Verdict.{Verdict}
 use Rattle.rebac.specs.Mining.{term_of}
-use Rattle.graph.specs.declared.Archive.{Archive}
-use Rattle.graph.specs.promises.Archive.{Shows}
+use Rattle.graph.specs.declared.archive.Archive.{Archive}
 use Rattle.graph.specs.Legal.{is_pair}
 use Rattle.mining.specs.promises.Pairs.{pair_at, is_pair_at}
 use Rattle.mining.specs.promises.Building.{problem_in, term_bytes, OutcomeAs}
@@ -19,11 +18,11 @@ use Rattle.mining.specs.declared.take.Taken.{Taken}
 
 -- the row's bit (u, v) tells whether the list permits the pair; bits of no pair are clear
 abbrev pub PairMarks : Archive → RuleList Word → Row → Type 0
-PairMarks a r row = (u v : ℕ) → test_bit (mask_in row u) v ≡ (is_pair a.parties u v && permits (problem_in a) r (pair u v))
+PairMarks a r row = (u v : ℕ) → test_bit (mask_in row u) v ≡ (is_pair a.graph.parties u v && permits (problem_in a) r (pair u v))
 
 -- the pair of this number is permitted, and no term so far permits it
 unfoldable pub due : Archive → RuleList Word → ℕ → Bool
-due a r k = is_pair_at a.parties k && ((problem_in a).permitted (pair_at k) && not (permits (problem_in a) r (pair_at k)))
+due a r k = is_pair_at a.graph.parties k && ((problem_in a).permitted (pair_at k) && not (permits (problem_in a) r (pair_at k)))
 
 -- the same, told from the masks of the permit table and of the marks
 unfoldable pub due_by : ℕ → Row → Row → ℕ → Bool
@@ -32,10 +31,9 @@ due_by n permits marks k =
     && (test_bit (mask_in permits (k / most_parties)) (k % most_parties)
     && not (test_bit (mask_in marks (k / most_parties)) (k % most_parties)))
 
--- the archive shows a matter, the pair is due for some list with these marks, and there is room for its term
+-- the pair is due for some list with these marks, and there is room for its term
 pub record DueQuery (a : Archive) (row : Row) (k at size : ℕ) : Type 0 where
   pub number : k < pair_numbers
-  pub shown : (M : Matter) × Shows M a
   pub list : RuleList Word
   pub marks : PairMarks a list row
   pub due : due a list k ≡ true

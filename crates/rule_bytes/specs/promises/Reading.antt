@@ -2,6 +2,7 @@
 use Rattle.std.specs.Prelude.{ℕ, zero, suc, ◌+◌, ◌≤◌, ◌<◌, ◌≡◌, length, take, drop, get_or, Option, Some, None, MatchOption}
 use mathlib.Core.List.{List, ◌++◌, Memᴰ}
 use Rattle.std.proofs.Math.Option.{Option as Decoded, none}
+use Rattle.lists.specs.Lists.{flat_map}
 use Rattle.limits.specs.Limits.{word_capacity, symbol_count}
 use Rattle.search.specs.promises.WordValues.{word_of}
 use Rattle.rule_bytes.specs.ListBytes.{encode_term, encode_list, Parsed, parsed}
@@ -16,6 +17,12 @@ Passes {A} f b at None = f (drop at b) ≡ none
 abbrev pub PassesMany : (ℕ → Option ℕ → Type 0) → ℕ → ℕ → Option ℕ → Type 0
 PassesMany R zero at r = r ≡ Some at
 PassesMany R (suc n) at r = (o : Option ℕ) × R at o × MatchOption o (r ≡ None) (λ next. PassesMany R n next r)
+
+-- entries ahead of a place, and what follows them
+pub record Ahead {A : Type 0} (e : A → List ℕ) (P : A → Type 0) (b : List ℕ) (place left : ℕ) (xs : List A) (s : List ℕ) : Type 0 where
+  pub bytes : drop place b ≡ flat_map e xs ++ s
+  pub number : length xs ≡ left
+  pub fits : (x : A) → Memᴰ x xs → P x
 
 -- there is a length byte, and its symbols
 pub record WordFits (b : List ℕ) (at : ℕ) : Type 0 where

@@ -1,6 +1,5 @@
 -- The search back over the enlarged graph as masks.
 use Rattle.std.specs.Prelude.{◌≡◌, ℕ, zero, suc, ◌+◌, ◌-◌, ◌<◌, ◌≤◌, min, max, Bool, not, ◌&&◌, List, [], ◌∷◌, nat_lt, slice_index}
-use Rattle.limits.specs.Limits.{word_capacity}
 use Rattle.masks.specs.promises.Mask.{test_bit, with_bit}
 use Rattle.masks.specs.promises.Table.{mask_in, mask_at}
 use Rattle.masks.specs.declared.Row.{Row}
@@ -9,6 +8,7 @@ use Rattle.rebac.specs.promises.Backward.{count_back, way_back, depth_back}
 use Rattle.search.specs.promises.PairSearch.{table_graph}
 use Rattle.search.specs.declared.word.Word.{Word}
 use Rattle.word_test.specs.declared.back.Back.{Back}
+use Rattle.word_test.specs.declared.back.Position.{Position}
 use Rattle.word_test.specs.declared.back.SearchBack.{SearchBack}
 
 -- k symbols of the word from place `from` on, the last one first
@@ -28,12 +28,12 @@ ways_from n t starts visited u r = count_back (table_graph n t) (λ c v. test_bi
 abbrev pub depth_from : ℕ → Table → ℕ → ℕ → List ℕ → ℕ
 depth_from n t visited u r = depth_back (table_graph n t) (λ c v. test_bit v c) (λ c v. with_bit v c) visited u r
 
--- what a search back found: the number of ways, cut at the cap, and where there is none the greater of two depths
+-- what a search back found: the number of ways, cut at the cap, and where there is none the greater of two depths, which is never passed
 pub record BackAs (cap ways deep far : ℕ) (r : Back) : Type 0 where
   pub count : r.count ≡ min cap ways
   pub depth : r.count ≡ 0 → r.depth ≡ max deep far
   pub known : deep ≤ r.depth
-  pub fits : r.depth ≤ word_capacity
+  pub most : r.depth ≤ max deep far
 
 -- for each party the parties from which the second symbol leads to it: the starts, and where a greater length is sought all others too
 pub record Seconds (n : ℕ) (t : Table) (w : Word) (starts deep : ℕ) (row : Row) : Type 0 where
@@ -46,14 +46,13 @@ pub record Seconds (n : ℕ) (t : Table) (w : Word) (starts deep : ℕ) (row : R
 abbrev pub may_stand : Table → Word → ℕ → ℕ → ℕ → ℕ → Bool
 may_stand t w visited u at c = not (test_bit visited c) && test_bit (mask_at t c u) (slice_index w.symbols at)
 
--- what a search back from party u along the places from `at` down needs, with its candidates as a mask
-pub record CandidateQuery (s : SearchBack) (cap at u mask visited deep : ℕ) : Type 0 where
-  pub some : 1 ≤ cap
-  pub three : 3 ≤ at
-  pub place : at < s.word.word.len
-  pub fits : deep ≤ word_capacity
-  pub candidates : (c : ℕ) → test_bit mask c ≡ (nat_lt c s.graph.parties && may_stand s.graph.table s.word.word visited u at c)
-  pub seconds : Seconds s.graph.parties s.graph.table s.word.word s.starts deep s.seconds
+-- what a search back from a position on needs: its mask has the candidates before its party
+pub record CandidateQuery (s : SearchBack) (p : Position) : Type 0 where
+  pub some : 1 ≤ p.cap
+  pub three : 3 ≤ p.at
+  pub place : p.at < s.word.word.len
+  pub candidates : (c : ℕ) → test_bit p.mask c ≡ (nat_lt c s.graph.parties && may_stand s.graph.table s.word.word p.visited p.u p.at c)
+  pub seconds : Seconds s.graph.parties s.graph.table s.word.word s.starts p.deep s.seconds
 
 -- what it found
 abbrev pub FoundBack : SearchBack → ℕ → ℕ → ℕ → ℕ → ℕ → Back → Type 0

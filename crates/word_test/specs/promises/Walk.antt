@@ -1,13 +1,11 @@
 -- Masks of parties outside of which no way leads back.
 use Rattle.std.specs.Prelude.{◌≡◌, ℕ, ◌+◌, ◌-◌, ◌<◌, ◌≤◌, true, false}
-use Rattle.limits.specs.Limits.{word_capacity}
 use Rattle.masks.specs.promises.Mask.{test_bit, with_bit}
 use Rattle.masks.specs.promises.Table.{mask_at}
 use Rattle.masks.specs.declared.Table.{Table}
 use Rattle.search.specs.promises.Walk.{Within}
 use Rattle.search.specs.declared.word.Word.{Word}
 use Rattle.word_test.specs.promises.Backward.{symbols_back, way_from, ways_from, depth_from}
-use Rattle.word_test.specs.declared.back.SearchBack.{SearchBack}
 
 -- a party below n that is not visited and to which the symbol leads from one of the mask below k
 abbrev pub Onward : ℕ → Table → ℕ → ℕ → ℕ → ℕ → ℕ → Type 0
@@ -30,9 +28,3 @@ pub record Skipped (n : ℕ) (t : Table) (w : Word) (at visited starts deep v : 
 abbrev pub Look : ℕ → Table → Word → ℕ → ℕ → ℕ → ℕ → ℕ → Type 0
 Look n t w at visited starts deep mask =
     (v : ℕ) → v < n → test_bit mask v ≡ false → test_bit visited v ≡ false → Skipped n t w at visited starts deep v
-
--- what a look at walks needs
-pub record LookQuery (s : SearchBack) (at deep : ℕ) : Type 0 where
-  pub some : 1 ≤ at
-  pub place : at < s.word.word.len
-  pub fits : deep ≤ word_capacity

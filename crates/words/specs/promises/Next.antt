@@ -1,7 +1,7 @@
 -- What the functions that seek the next word need, and what they promise each other.
-use Rattle.std.specs.Prelude.{ℕ, zero, suc, ◌<◌, ◌≡◌, true, ltb, length, replicate, MatchOption}
+use Rattle.std.specs.Prelude.{ℕ, zero, suc, ◌<◌, ◌≡◌, true, false, ltb, List, [], ◌∷◌, ◌++◌, length, replicate, MatchOption, IfSome}
 use Rattle.std.specs.Prelude.{Option as Maybe}
-use mathlib.Core.List.{List, ◌∷◌, ◌++◌, Memᴰ}
+use mathlib.Core.List.{Memᴰ}
 use Rattle.std.proofs.Math.Option.{Option, none, some}
 use Rattle.lists.specs.Order.{Ascending}
 use Rattle.limits.specs.Limits.{symbol_count}
@@ -36,7 +36,14 @@ unfoldable pub complete_zeros : List ℕ → Graph ℕ → Pair → List ℕ →
 complete_zeros al g p done zero = some done
 complete_zeros al g p done (suc k) = complete al g p done 0 k
 
--- what is promised: the word with its least symbol at the place, from the floor that stands there on,
+-- what is promised: the word with the symbol at the place, if a path still exists with it,
+abbrev pub SymbolTried : PairIn → Word → ℕ → ℕ → Maybe ShortWord → Type 0
+SymbolTried q w at s r = IfSome r (λ t. t.word.len ≡ w.len) × ((al fixed : List ℕ) (floor k : ℕ) → Alphabet al q.graph.parties q.graph.table
+    → Places w fixed floor k → length fixed ≡ at
+    → MatchOption r (find_form al (graph_of q.graph) (pair_of q) (fixed_then_free (fixed ++ (s ∷ [])) k) ≡ false)
+    (λ t. Places t.word fixed s k × (find_form al (graph_of q.graph) (pair_of q) (fixed_then_free (fixed ++ (s ∷ [])) k) ≡ true)))
+
+-- the word with its least symbol at the place, from the floor that stands there on,
 pub record LeastPut (q : PairIn) (w : Word) (at : ℕ) (r : Word) : Type 0 where
   pub len : r.len ≡ w.len
   pub least : (al fixed : List ℕ) (floor k s : ℕ) → Alphabet al q.graph.parties q.graph.table → Places w fixed floor k

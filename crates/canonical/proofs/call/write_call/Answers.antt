@@ -1,5 +1,5 @@
 -- The file's refusals come first; what an accepted file's decoded form holds stands for its matter.
-use mathlib.Core.Path.{refl}
+use Rattle.std.proofs.Common.{refl}
 use Rattle.house_layout.proofs.Exits.{left_with}
 use Rattle.canonical.specs.Calls.{write_call}
 use Rattle.canonical.proofs.DecodedLaws.{decoded_stands}

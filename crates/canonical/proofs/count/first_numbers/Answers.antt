@@ -1,8 +1,5 @@
-use mathlib.Core.Path.{refl, ◌∙◌}
-use Prim.Native.Nat.{suc, ◌+◌, ◌≤◌}
-use native.Mathlib.Omega.{arith}
-use lib.ListN.{length-set}
-use Rattle.canonical.specs.promises.Masks.{matter_in}
+use Rattle.std.proofs.Common.{refl, ◌∙◌, suc, ◌+◌, ◌≤◌, arith, length-set}
+use Rattle.canonical.specs.promises.Masks.{matter_by}
 use Rattle.canonical.proofs.EntryLaws.{count_bounded}
 use Rattle.canonical.proofs.LayoutLaws.{first_step, first_most}
 use Rattle.canonical.proofs.CountLaws.{numbered_zero, numbered_step}
@@ -12,9 +9,10 @@ use Rattle.canonical.proofs.count.first_numbers.Goals as goal
 bounded : (c : goal.After-count_party-number) → c.loop-u.number + c.count_party-number.result ≤ 9217
 bounded c =
     let l = c.loop-u in
-    let M = matter_in c.args.h c.args.kinds.now in
+    let M = matter_by c.args.m.now in
     let most = first_most M (suc l.u) (omega arith) in
-    omega (arith, l.invariant.numbered.last, c.count_party-number.ensures, first_step M l.u, most, count_bounded M c.requires.0 c.requires.1)
+    let n = count_bounded M c.args.m.now.parties c.args.m.now.labels in
+    omega (arith, l.invariant.numbered.last, c.count_party-number.ensures, first_step M l.u, most, n)
 
 pub loop-u-init : goal.loop-u-init
 loop-u-init c = record { places = refl; numbered = numbered_zero _ _ }
@@ -30,6 +28,3 @@ loop-u-preserved c =
       places = length-set l.numbers _ _ ∙ l.invariant.places;
       numbered = numbered_step _ l.numbers l.number l.u n.result (omega arith) n.ensures l.invariant.numbered;
     }
-
-pub returns : goal.returns
-returns c = λ u h. c.loop-u.invariant.numbered.stored u (omega arith)

@@ -1,17 +1,19 @@
+use Rattle.std.specs.Prelude.{Some, Option as Maybe}
 use Rattle.std.proofs.Common.{◌≡◌, ℕ, ◌-◌, suc, [], replicate, refl, sym, ap, ◌∙◌, subst, arith}
 use Rattle.search.specs.Word.{symbols_in}
 use Rattle.search.specs.promises.PairSearch.{graph_of}
+use Rattle.search.specs.declared.pair.TwoPairsIn.{TwoPairsIn}
+use Rattle.search.specs.declared.word.ShortWord.{ShortWord}
 use Rattle.classes.specs.promises.Prefixes.{own_pair, other_pair}
 use Rattle.classes.proofs.ByWordsLaws.{PassTurn, NoneBefore, pass_first, pass_next, words_fall}
 use Rattle.classes.proofs.ByWordsLaws.{none_tells, tells_here, tells_by}
 use Rattle.classes.proofs.by_words.telling_by_words.Goals as goal
-use Rattle.classes.proofs.by_words.telling_by_words.Goals.{In-Some}
 
 -- the word in hand
-held : (c : In-Some) →
-    let q = c.args.q.now in
-    NoneBefore (graph_of q.graph) (own_pair q) (other_pair q) c.args.len (symbols_in c.in-Some.w.word)
-held c = rw c.in-Some.is at c.loop-next.invariant
+held : (q : TwoPairsIn) (len : ℕ) {r : Maybe ShortWord} {w : ShortWord} → r ≡ Some w
+    → PassTurn (graph_of q.graph) (own_pair q) (other_pair q) len r
+    → NoneBefore (graph_of q.graph) (own_pair q) (other_pair q) len (symbols_in w.word)
+held q len e t = rw e at t
 
 pub loop-next-init : goal.loop-next-init
 loop-next-init c =
@@ -28,29 +30,29 @@ loop-next-init c =
 
 pub returns-then-not-has_word : goal.returns-then-not-has_word
 returns-then-not-has_word c al A =
-    let i = c.before.before.before in
+    let i = held c.args.q.now c.args.len c.in-Some.is c.loop-next.invariant in
     let other = c.other-other.ensures in
     let has = rw (other.graph, other.first, other.second) at c.has_word.ensures in
-    tells_here _ _ _ _ al A.listed A.ascending _ (held i) (tells_by _ _ _ _ (held i) (sym has ∙ c.if-not-has_word.true))
+    tells_here _ _ _ _ al A.listed A.ascending _ i (tells_by _ _ _ _ i (sym has ∙ c.if-not-has_word.true))
 
 pub loop-next-smaller : goal.loop-next-smaller
 loop-next-smaller c =
-    let i = c.before.before.before.before.before in
+    let i = held c.args.q.now c.args.len c.in-Some.is c.loop-next.invariant in
     let A = c.requires.alphabet in
     let own = c.own-own.ensures in
     let next = rw (own.graph, own.first, own.second) at c.next_same_length-next.ensures in
     rw c.in-Some.is
-    (words_fall _ _ _ _ A.0 A.1.listed A.1.ascending A.1.below _ (held i) c.next_same_length-next.result (next A.0 A.1))
+    (words_fall _ _ _ _ A.0 A.1.listed A.1.ascending A.1.below _ i c.next_same_length-next.result (next A.0 A.1))
 
 pub loop-next-preserved : goal.loop-next-preserved
 loop-next-preserved c =
-    let i = c.before.before.before.before.before in
+    let i = held c.args.q.now c.args.len c.in-Some.is c.loop-next.invariant in
     let A = c.requires.alphabet in
     let own = c.own-own.ensures in
     let other = c.other-other.ensures in
     let has = rw (other.graph, other.first, other.second) at c.has_word.ensures in
     let next = rw (own.graph, own.first, own.second) at c.next_same_length-next.ensures in
-    pass_next _ _ _ _ A.0 A.1.listed A.1.ascending _ (held i) (tells_by _ _ _ _ (held i) (sym has ∙ c.if-not-has_word.false))
+    pass_next _ _ _ _ A.0 A.1.listed A.1.ascending _ i (tells_by _ _ _ _ i (sym has ∙ c.if-not-has_word.false))
     c.next_same_length-next.result (next A.0 A.1)
 
 pub returns : goal.returns

@@ -14,5 +14,5 @@ returns-then-is_none c al A =
     let over = c.new-classes.ensures in
     let found = rw (over.parties, over.table, over.first, over.second, over.u, over.v, over.base, k.alone) at c.first_telling.ensures in
     let none = word_not _ c.first_telling.result found c.if-is_none.ensures in
-    length_none (graph_of q.graph) (table_graph q.graph.parties l.graph) l.end (k.in_classes q.graph.parties q.graph.within)
+    length_none (graph_of q.graph) (table_graph q.graph.parties l.graph) l.span.end (k.in_classes q.graph.parties q.graph.within)
     (own_pair q) (other_pair q) q.is_pair.first q.other.first al c.args.len none

@@ -1,19 +1,15 @@
-use Rattle.std.proofs.Common.{◌+◌, sym, ◌∙◌, arith}
-use Rattle.std.proofs.Math.Logic.{by_cases}
-use native.Mathlib.Decide.{ℕ_discrete}
-use Rattle.classes.proofs.LengthLaws.{no_word}
+-- The first length at which something is told (LengthLaws).
+use Rattle.std.proofs.Common.{rules, ◌+◌}
+use Rattle.std.proofs.iter.runs.Sources.{range_runs}
+use Rattle.lists.proofs.Ranges.{first_given}
+use Rattle.classes.proofs.LengthLaws.{first_told}
 use Rattle.classes.proofs.lengths.by_lengths.Goals as goal
-use Rattle.classes.proofs.lengths.by_lengths.Goals.{else-loop-len-test, then-loop-len-test+then-n-len}
-
-pub loop-len-preserved : goal.loop-len-preserved
-loop-len-preserved g c j low high below =
-    by_cases (ℕ_discrete j (c.loop-len.len + 1))
-    (λ e. (c.telling-word.result, rw e c.telling-word.ensures, no_word c.telling-word.result (sym c.is_some.ensures ∙ c.if-is_some.false)))
-    (λ n. c.loop-len.invariant j low (omega (arith, high, n)) below)
 
 pub returns : goal.returns
-returns g c j low high below =
-    c.loop-len.invariant j low (elim c.loop-len-test.branch [
-      | else-loop-len-test w ↦ omega (arith, high, w.loop-len-test.false)
-      | then-loop-len-test+then-n-len w ↦ omega (arith, below, w.if-n-len.true)
-    ]) below
+returns g c =
+    let a = c.args in
+    let n = a.q.now.graph.parties in
+    let r = c.find_map.ensures.runs in
+    let up = rw (r.1, c.min.ensures) at (range_runs r.0 r.0.seen) in
+    first_told _ n a.from a.d c.find_map.result
+    (first_given r.0 _ _ (λ x o. goal.F-post g a.telling (x + 1) o) (λ x o h e. search rules) a.from _ up c.find_map.result r.2)

@@ -3,7 +3,7 @@ use Rattle.std.proofs.Common.{rules}
 use Rattle.search.specs.Word.{symbols_in}
 use Rattle.search.specs.promises.PairSearch.{graph_of}
 use Rattle.classes.specs.promises.Prefixes.{own_pair, other_pair}
-use Rattle.classes.proofs.LengthLaws.{first_length, found_below, found_in_symbols, none_in_symbols}
+use Rattle.classes.proofs.LengthLaws.{first_length, found_in_symbols, none_in_symbols}
 use Rattle.classes.proofs.lengths.first_telling_word.Goals as goal
 
 pub returns-in_default : goal.returns-in_default
@@ -21,12 +21,6 @@ returns-in_err-word c al A =
     let q = c.args.q.now in
     rw c.from_residual.ensures (none_in_symbols (c.in-Some.ensures q.graph.parties q.graph.within) (own_pair q) (other_pair q) c.args.from _
     q.is_pair q.other al A.ascending A.listed c.in_err-word.ensures)
-
-pub in_symbols-requires : goal.in_symbols-requires
-in_symbols-requires c =
-    let q = c.args.q.now in
-    found_below (c.in-Some.ensures q.graph.parties q.graph.within) (own_pair q) (other_pair q) c.args.from _ c.in_ok-word.word
-    c.in_ok-word.ensures
 
 pub returns : goal.returns
 returns c al A =

@@ -1,6 +1,6 @@
 -- Byte after byte, each by its bit.
 -- Invariant: the bytes before place k are those of their bits, the others as they were.
-use mathlib.Core.Path.{◌≡◌}
+use Rattle.std.proofs.Common.{◌≡◌}
 use Rattle.fields.specs.promises.Writing.{put}
 use Rattle.conversion.proofs.TableLaws.{bytes_to}
 use Rattle.conversion.proofs.table.put_table.Given as goal

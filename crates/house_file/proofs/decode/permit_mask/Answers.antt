@@ -1,7 +1,6 @@
 -- Each place in turn; a row has no mask past its places.
-use mathlib.Core.Path.{◌≡◌, sym, ◌∙◌}
-use lib.ListN.{length, get_or-eq_default}
-use native.Mathlib.Omega.{arith}
+use Rattle.std.proofs.Common.{◌≡◌, sym, ◌∙◌, length, arith}
+use Rattle.std.proofs.Math.ListN.{get_or-eq_default}
 use Rattle.masks.proofs.MaskLaws.{filled_none, filled_with, filled_without, filled_all, zero_bit}
 use Rattle.house_file.proofs.decode.permit_mask.Invariants.{permits}
 use Rattle.house_file.proofs.decode.permit_mask.Goals.{then-has, else-has}

@@ -1,6 +1,5 @@
 -- Invariant: the mask is filled for the parties below v.
-use mathlib.Core.Bool.{Bool}
-use Prim.Native.Nat.{ℕ}
+use Rattle.std.proofs.Common.{Bool, ℕ}
 use Rattle.masks.specs.promises.Mask.{test_bit}
 use Rattle.masks.specs.promises.Table.{mask_in}
 use Rattle.masks.specs.declared.Row.{Row}

@@ -6,6 +6,6 @@ pub loop-z-preserved : goal.loop-z-preserved
 loop-z-preserved c =
     let l = c.loop-z in
     elim c.if-z-x.branch [
-      | then-z-x w ↦ rw w.letters-is (past_more c.args.g.now c.args.x c.args.y l.z l.letters l.invariant)
-      | else-z-x w ↦ rw w.letters-is (past_same c.args.g.now c.args.x c.args.y l.z l.letters l.invariant w.if-z-x.false)
+      | then-z-x w ↦ rw w.letters-is (past_more c.args.g.now _ _ l.z l.letters l.invariant)
+      | else-z-x w ↦ rw w.letters-is (past_same c.args.g.now _ _ l.z l.letters l.invariant w.if-z-x.false)
     ]

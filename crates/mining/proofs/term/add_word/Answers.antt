@@ -1,11 +1,5 @@
 -- The word after the term's bytes, then the count anew.
-use mathlib.Core.Path.{◌≡◌, sym, ap, ◌∙◌}
-use mathlib.Core.List.{List}
-use Prim.Native.Nat.{ℕ, ◌+◌}
-use native.Mathlib.Omega.{arith}
-use borrow.Author.Rules.{rules}
-use lib.ListN.{length}
-use lib.Seq.{length-take-le}
+use Rattle.std.proofs.Common.{◌≡◌, sym, ap, ◌∙◌, List, ℕ, ◌+◌, arith, rules, length, length-take-le}
 use Rattle.search.specs.Word.{symbols_in}
 use Rattle.fields.specs.Numbers.{u16_bytes}
 use Rattle.rule_bytes.specs.ListBytes.{encode_word, encode_term}

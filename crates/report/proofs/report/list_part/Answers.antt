@@ -1,6 +1,5 @@
 -- The list is the text's, or it is too long.
-use native.Mathlib.Omega.{arith}
-use lib.Seq.{length-take-le}
+use Rattle.std.proofs.Common.{arith, length-take-le}
 use Rattle.house_layout.specs.declared.reply.Refusal.TheVariants.{Output}
 use Rattle.graph.specs.FileMatter.{matter_of}
 use Rattle.conversion.specs.Calls.{list_of}

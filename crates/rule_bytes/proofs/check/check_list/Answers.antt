@@ -1,6 +1,7 @@
 -- The count, then that many terms, and the end.
 use Rattle.std.proofs.Common.{◌∙◌, sym, arith, rules}
-use Rattle.rule_bytes.specs.ListBytes.{decode_term}
+use Rattle.rule_bytes.specs.ListBytes.{decode_many, decode_term}
+use Rattle.rule_bytes.specs.promises.Reading.{Passes}
 use Rattle.rule_bytes.proofs.ReadingLaws.{list_cut, list_ends, passes_many}
 use Rattle.rule_bytes.proofs.check.check_list.Goals as goal
 
@@ -10,6 +11,7 @@ returns-then-list-lt2 c = sym (list_cut _ _ _ _ c.if-list-lt2.true)
 pub returns : goal.returns
 returns c =
     let a = c.args in
-    let term = decode_term a.labels a.language a.longest in
-    let terms = passes_many term a.list.now (λ x o h p. search rules) c.u16_at-number.result 2 _ (omega (arith, c.if-list-lt2.false)) c.check_parts-end.ensures in
+    let term = decode_term a.rule.labels a.rule.language a.rule.longest in
+    let terms : Passes (decode_many term c.u16_at-number.result) a.list.now 2 c.check_parts-end.result =
+    search (rules, passes_many term a.list.now) in
     c.eq.ensures ∙ sym (list_ends _ _ _ _ _ (omega (arith, c.if-list-lt2.false)) c.u16_at-number.ensures.0 _ terms)

@@ -10,4 +10,7 @@ returns-in_err-place g c =
 
 pub loop-preserved : goal.loop-preserved
 loop-preserved g c =
-    (c.requires.onward _ _ c.in_ok-place.ensures, λ r h. c.loop.invariant.1 r (many_from _ c.args.number c.loop.counter _ _ _ c.loop-test.true c.in_ok-place.ensures h))
+    let given = c.in_ok-place.ensures in (
+      c.requires.onward _ _ given,
+      λ r h. c.loop.invariant.1 r (many_from _ c.args.number c.loop.counter _ _ _ c.loop-test.true given h),
+    )

@@ -12,5 +12,6 @@ returns c =
     let k : ℕ = c.from-len.result in
     let h : k ≤ length (drop from b) = omega (arith, length-drop from b, c.from-len.ensures, c.requires.end) in
     let e : from + k - from ≡ k = omega arith in
-    let w = copied_word (drop from b) c.copy_from_slice.new.self k h (c.copy_from_slice.ensures.after ∙ ap (λ (n : ℕ). take n (drop from b)) e) in
+    let copied = c.copy_from_slice.ensures.after ∙ ap (λ (n : ℕ). take n (drop from b)) e in
+    let w = copied_word (drop from b) c.copy_from_slice.new.self k h copied in
     rw (← c.from-len.ensures) (ap (λ (v : Word). let r : WordRead = record { word = v; next = from + k } in r) w)

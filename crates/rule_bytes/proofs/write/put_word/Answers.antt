@@ -1,7 +1,5 @@
 -- The length byte, then the symbols.
-use Rattle.std.proofs.Common.{◌≡◌, sym, ap, ◌∙◌, ℕ, ◌+◌, ◌-◌, List, [], ◌∷◌, length, arith, rules}
-use lib.ListN.{set}
-use lib.Seq.{length-take-le}
+use Rattle.std.proofs.Common.{◌≡◌, sym, ap, ◌∙◌, ℕ, ◌+◌, ◌-◌, List, [], ◌∷◌, length, arith, rules, set, length-take-le}
 use Rattle.search.specs.Word.{symbols_in}
 use Rattle.rule_bytes.specs.ListBytes.{encode_word}
 use Rattle.fields.specs.promises.Writing.{put}

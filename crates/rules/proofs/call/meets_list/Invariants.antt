@@ -1,6 +1,5 @@
 -- Invariant: no term before `place` is met, and the terms from there on are the rest, all but those counted.
-use mathlib.Core.List.{List}
-use Prim.Native.Nat.{ℕ, ◌-◌}
+use Rattle.std.proofs.Common.{List, ℕ, ◌-◌}
 use Rattle.rule_bytes.specs.promises.Reading.{IsList}
 use Rattle.rules.specs.promises.Meets.{term_met}
 use Rattle.rules.proofs.MeetLaws.{ListSoFar}

@@ -5,4 +5,4 @@ use Rattle.word_test.proofs.StepLaws.{JoinedTo}
 use Rattle.word_test.proofs.step.join.Given as goal
 
 abbrev pub invariant-loop-v : goal.invariant-loop-v
-invariant-loop-v l = JoinedTo l.initial.joined (get_or l.g.table.rows l.c no_row) l.s l.c l.joined l.v
+invariant-loop-v l = JoinedTo l.initial.joined (get_or l.g.table.rows l.c no_row) l.s.number l.c l.joined l.v

@@ -6,4 +6,4 @@ use Rattle.masks.proofs.MaskLaws.{Filled}
 use Rattle.word_test.proofs.step.steps_from.Given as goal
 
 abbrev pub invariant-loop-c : goal.invariant-loop-c
-invariant-loop-c l = Filled (λ x. test_bit (mask_in (get_or l.g.table.rows l.u no_row) x) l.s) l.c l.mask
+invariant-loop-c l = Filled (λ x. test_bit (mask_in (get_or l.g.table.rows l.u no_row) x) l.s.number) l.c l.mask

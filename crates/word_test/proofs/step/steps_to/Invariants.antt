@@ -6,4 +6,4 @@ use Rattle.masks.proofs.MaskLaws.{Filled}
 use Rattle.word_test.proofs.step.steps_to.Given as goal
 
 abbrev pub invariant-loop-c : goal.invariant-loop-c
-invariant-loop-c l = Filled (λ x. test_bit l.among x && test_bit (mask_at l.g.table x l.u) l.s) l.c l.mask
+invariant-loop-c l = Filled (λ x. test_bit l.among x && test_bit (mask_at l.g.table x l.u) l.s.number) l.c l.mask

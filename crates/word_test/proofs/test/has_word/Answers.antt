@@ -1,15 +1,12 @@
 -- A word of n symbols or more is had by no pair; else one path is enough.
 use Rattle.std.proofs.Common.{ℕ, sym, ◌∙◌, arith, le-ltb, lt-ltb}
-use native.Mathlib.Decide.{ℕ_discrete}
-use mathlib.Core.Logic.{by_cases}
+use Rattle.std.proofs.Math.Decide.{ℕ_discrete}
+use Rattle.std.proofs.Math.Logic.{by_cases}
 use Rattle.word_test.proofs.TestLaws.{test_no, test_yes, test_long}
 use Rattle.word_test.proofs.test.has_word.Goals as goal
 
 pub returns-then-q-w : goal.returns-then-q-w
 returns-then-q-w c = sym (test_long c.args.q.now c.args.w c.if-q-w.true)
-
-pub search_back-f-requires-clause-fits : goal.search_back-f-requires-clause-fits
-search_back-f-requires-clause-fits c = c.args.w.short.len
 
 pub returns : goal.returns
 returns c =

@@ -1,7 +1,5 @@
 -- A search from the floor on that finds nothing shows that there is no such word; else the least symbol, and the rest.
-use Rattle.std.proofs.Common.{ℕ, [], ◌∷◌, ◌++◌, not, sym, ap, ◌∙◌, replicate}
-use mathlib.Core.List.{append_assoc}
-use lib.ListN.{length-append}
+use Rattle.std.proofs.Common.{ℕ, [], ◌∷◌, ◌++◌, not, sym, ap, ◌∙◌, replicate, append_assoc, length-append}
 use Rattle.words.proofs.NextLaws.{found_floor, least_there, least_gone, least_is, complete_step, complete_none}
 use Rattle.words.proofs.next.complete_from.Goals as goal
 

@@ -1,51 +1,24 @@
-use Rattle.std.proofs.Common.{◌≡◌, refl, sym, ◌∙◌, arith}
-use mathlib.Core.Logic.{by_cases}
-use native.Mathlib.Decide.{ℕ_discrete}
-use Rattle.lists.proofs.Cases.{both}
-use Rattle.words.proofs.NextLaws.{found_fixed, least_is, symbol_places, place_at}
+-- The symbols from the floor on are tried one after another (NextLaws).
+use Rattle.std.proofs.Common.{◌≡◌, ℕ, ◌+◌, get_or, ap, ◌∙◌, subst, rules, tests}
+use Rattle.std.specs.Iterator.Runs.{ItemsCountUp}
+use Rattle.std.specs.Range.{range_inclusive_start, range_inclusive_end, range_inclusive_exhausted}
+use Rattle.std.proofs.iter.runs.Sources.{inclusive_listed}
+use Rattle.lists.proofs.Ranges.{first_given}
+use Rattle.words.specs.promises.Next.{SymbolTried}
+use Rattle.words.proofs.NextLaws.{least_first}
 use Rattle.words.proofs.next.least_symbol.Goals as goal
-
-pub loop-s-init : goal.loop-s-init
-loop-s-init c al fixed floor k s A p l e =
-    let m = least_is c.args.q.now A fixed floor k s e in
-    let x = place_at c.args.w.word fixed floor k p l c.requires in
-    (omega (arith, x), omega (arith, x, m.from))
-
-pub returns-then-is_ok : goal.returns-then-is_ok
-returns-then-is_ok c =
-    let q = c.args.q.now in
-    let x = c.loop-s.s in
-    let put = c.put-word.ensures in
-    record {
-      len = put.len;
-      least = λ al fixed floor k s A p l e.
-          let i = c.loop-s.invariant al fixed floor k s A p l e in
-          let m = least_is q A fixed floor k s e in
-          let places = symbol_places c.args.w.word x put.len put.symbols fixed floor k p l c.requires in
-          let found = found_fixed q A c.put-word.result fixed x k places l _ c.search.ensures in
-          by_cases (ℕ_discrete x s)
-          (λ q. rw q at places)
-          (λ q. both (sym found ∙ sym c.is_ok.ensures.value ∙ c.if-is_ok.true) (m.earlier x i.0 (omega (arith, q, i.1))));
-    }
-
-pub loop-s-preserved : goal.loop-s-preserved
-loop-s-preserved c al fixed floor k s A p l e =
-    let q = c.args.q.now in
-    let x = c.loop-s.s in
-    let put = c.put-word.ensures in
-    let i = c.loop-s.invariant al fixed floor k s A p l e in
-    let m = least_is q A fixed floor k s e in
-    let places = symbol_places c.args.w.word x put.len put.symbols fixed floor k p l c.requires in
-    let found = found_fixed q A c.put-word.result fixed x k places l _ c.search.ensures in
-    let n : x ≡ s → ⊥ = λ q. both (rw (← q) at m.finds) (sym found ∙ sym c.is_ok.ensures.value ∙ c.if-is_ok.false) in
-    (omega (arith, i.0), omega (arith, i.1, n))
 
 pub returns : goal.returns
 returns c =
-    record {
-      len = refl;
-      least = λ al fixed floor k s A p l e.
-          let i = c.loop-s.invariant al fixed floor k s A p l e in
-          let m = least_is c.args.q.now A fixed floor k s e in
-          absurd (omega (arith, i.1, m.below, c.loop-s-test.false));
-    }
+    let q = c.args.q.now in
+    let w = c.args.w in
+    let r = c.find_map.ensures.runs in
+    let floor : ℕ = get_or w.word.symbols c.args.at 0 in
+    let up = inclusive_listed r.0 r.0.seen in
+    let start : up.0 ≡ floor = up.2 ∙ ap range_inclusive_start r.1 ∙ c.new.ensures.start in
+    let end : up.1 ≡ 32 = up.3 ∙ ap (λ x. range_inclusive_end x + 1) r.1 ∙ ap (λ x. x + 1) c.new.ensures.end in
+    let items = (up.4 (ap range_inclusive_exhausted r.1 ∙ c.new.ensures.exhausted)).0 in
+    rw c.unwrap_or.ensures
+    (least_first q w c.requires c.find_map.result
+    (first_given r.0 _ _ (SymbolTried q w.word c.args.at) (λ x o h e. search (rules, tests)) floor 32
+    (subst (λ a. ItemsCountUp r.0 a 32) start (subst (λ b. ItemsCountUp r.0 up.0 b) end items)) c.find_map.result r.2))

@@ -1,7 +1,5 @@
-use Rattle.std.proofs.Common.{◌≡◌, ℕ, ◌-◌, List, take, drop, refl, sym, ap, ◌∙◌, arith}
-use mathlib.Core.List.{append-nil}
-use mathlib.Core.Option.{Option}
-use lib.Seq.{take_all}
+use Rattle.std.proofs.Common.{◌≡◌, ℕ, ◌-◌, List, take, drop, refl, sym, ap, ◌∙◌, arith, append-nil, take_all}
+use Rattle.std.proofs.Math.Option.{Option}
 use Rattle.rebac.specs.promises.Forms.{next_same_length}
 use Rattle.rebac.proofs.FormLaws.{same_end}
 use Rattle.search.specs.Word.{symbols_in}
@@ -50,9 +48,3 @@ loop-i-preserved c =
       kept = raise_zero v size i put.len put.symbols;
       passed = λ al A. word_not _ _ (raise_next v size i raised.result raised.ensures A) (sym c.is_some.ensures ∙ c.if-is_some.false);
     }
-
-pub returns : goal.returns
-returns c al A =
-    let l = c.loop-i in
-    let z : l.i ≡ 0 = omega (arith, c.loop-i-test.false) in
-    rw z at (l.invariant.passed al A)

@@ -1,6 +1,5 @@
 -- One more is put at the place, and the search goes on from it; a symbol of 31 has none above it.
-use Rattle.std.proofs.Common.{◌≡◌, suc, ◌+◌, ◌≤◌, get_or, arith}
-use native.Mathlib.Numerals.{add-one}
+use Rattle.std.proofs.Common.{◌≡◌, suc, ◌+◌, ◌≤◌, get_or, arith, add-one}
 use Rattle.words.proofs.NextLaws.{symbol_places, place_at, complete_high}
 use Rattle.words.proofs.next.raise_at.Goals as goal
 

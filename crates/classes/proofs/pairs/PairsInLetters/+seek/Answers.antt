@@ -4,7 +4,7 @@ use Rattle.classes.specs.promises.Prefixes.{own_pair, other_pair, letters_from}
 use Rattle.classes.proofs.PrefixLaws.{onward_closed}
 use Rattle.classes.proofs.SeekLaws.{turn_start, turn_skip, turn_found, turn_failed, turn_end, ended_here, ended_none, passed}
 use Rattle.classes.proofs.pairs.PairsInLetters.+seek.Goals as goal
-use Rattle.classes.proofs.pairs.PairsInLetters.+seek.Goals.{then-has+else-is_some, else-has}
+use Rattle.classes.proofs.pairs.PairsInLetters.+seek.Goals.{then-is_in+else-is_some, else-is_in}
 
 pub returns-then-tells : goal.returns-then-tells
 returns-then-tells t c =
@@ -19,7 +19,7 @@ returns-then-w-at t c =
 pub returns-then-is_none : goal.returns-then-is_none
 returns-then-is_none t c =
     let a = c.args in
-    passed a.self.now.pairs a.w a.at a.low a.high a.self.now.end c.requires.order (c.requires.classed c.if-high-self.true)
+    passed a.self.now.pairs a.w a.at a.low a.high a.self.now.span.end c.requires.order (c.requires.classed c.if-high-self.true)
     c.seek.result c.seek.ensures c.if-is_none.ensures c.if-w-at.false
 
 pub loop-c-init : goal.loop-c-init
@@ -38,14 +38,14 @@ loop-c-preserved t c =
     let l = c.loop-c in
     let q = a.self.now.pairs in
     let below = c.loop-c-test.true in
-    elim c.if-has.branch [
-      | then-has+else-is_some w ↦
+    elim c.if-is_in.branch [
+      | then-is_in+else-is_some w ↦
           let put = w.put.ensures in
           turn_failed q a.w a.at a.low a.high l.c w.put.result.word put.len put.symbols c.if-w-at.false w.seek-word.result
           w.seek-word.ensures l.invariant below (sym w.is_some.ensures ∙ w.if-is_some.false)
-      | else-has w ↦ turn_skip q a.w a.at a.low a.high l.invariant below (λ fixed k p z.
+      | else-is_in w ↦ turn_skip q a.w a.at a.low a.high l.invariant below (λ fixed k p z.
           onward_closed (graph_of q.graph) (own_pair q) (other_pair q) (letters_from a.low a.high) fixed k l.c
-          (c.letters_open-leads.ensures fixed k p z l.c l.invariant.from below (sym c.has.ensures ∙ w.if-has.false)))
+          (c.letters_open-leads.ensures fixed k p z l.c l.invariant.from below (sym c.is_in.ensures ∙ w.if-is_in.false)))
     ]
 
 pub returns : goal.returns

@@ -8,5 +8,5 @@ use Rattle.classes.proofs.pairs.PairsInLetters.first_telling.Goals as goal
 pub returns : goal.returns
 returns c =
     let s = c.args.self.now in
-    rw (← onward_start (graph_of s.pairs.graph) (own_pair s.pairs) (other_pair s.pairs) s.base c.args.len)
+    rw (← onward_start (graph_of s.pairs.graph) (own_pair s.pairs) (other_pair s.pairs) s.span.base c.args.len)
     (c.seek.ensures [] c.args.len c.zeros.ensures.symbols refl)

@@ -1,5 +1,8 @@
-use Rattle.std.proofs.Common.{◌≡◌, sym, ◌∙◌}
+use Rattle.std.proofs.Common.{◌≡◌, sym, ◌∙◌, ap, rules}
+use Rattle.std.proofs.lemmas.List.{get_or-map}
+use Rattle.masks.specs.promises.Mask.{test_bit}
 use Rattle.masks.proofs.MaskLaws.{filled_none, filled_with, filled_without}
+use Rattle.letters.specs.promises.Letters.{numbers}
 use Rattle.letters.specs.promises.Writing.{letter_on}
 use Rattle.letters.proofs.WritingLaws.{letter_low, letter_high}
 use Rattle.letters.proofs.legend.Legend.letters_in.Goals as goal
@@ -12,8 +15,10 @@ pub loop-i-preserved : goal.loop-i-preserved
 loop-i-preserved c =
     let s = c.args.self.now in
     let l = c.loop-i in
-    let on : letter_on s.symbols s.base s.classes c.args.mask l.i ≡ c.if-i-self.on = elim c.if-i-self.branch [
-      | then-i-self w ↦ letter_low _ _ _ _ _ w.if-i-self.true ∙ sym w.has-on.ensures ∙ sym w.on-is
+    let on : letter_on (numbers s.symbols) s.span.base s.classes c.args.mask l.i ≡ c.if-i-self.on = elim c.if-i-self.branch [
+      | then-i-self w ↦ letter_low _ _ _ _ _ w.if-i-self.true
+          ∙ ap (test_bit c.args.mask) (get_or-map (λ x. x.number) s.symbols l.i _ 0 (search rules))
+          ∙ sym w.is_in-on.ensures ∙ sym w.on-is
       | else-i-self w ↦ letter_high _ _ _ _ _ w.if-i-self.false ∙ sym w.on-is
     ] in
     elim c.if-on.branch [

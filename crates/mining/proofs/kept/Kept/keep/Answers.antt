@@ -1,6 +1,5 @@
 -- The word is the term's last one, and the count and the end are written anew.
-use mathlib.Core.Path.{sym, refl}
-use native.Mathlib.Omega.{arith}
+use Rattle.std.proofs.Common.{sym, refl, arith}
 use Rattle.mining.proofs.KeptLaws.{kept_room, kept_more}
 use Rattle.mining.proofs.kept.Kept.keep.Goals as goal
 

@@ -1,4 +1,4 @@
-use Rattle.std.proofs.Common.{ℕ, ◌-◌, Bool, sym, ◌∙◌, arith, lt-ltb}
+use Rattle.std.proofs.Common.{ℕ, ◌-◌, Bool, sym, ◌∙◌}
 use Rattle.masks.specs.promises.Table.{mask_at}
 use Rattle.masks.proofs.MaskLaws.{filled_none, filled_with, filled_without}
 use Rattle.search.specs.promises.Search.{place_on, place_at}
@@ -19,6 +19,3 @@ loop-v-preserved c =
           (filled_with p l.v l.ends l.invariant (sym c.allows.ensures ∙ w.if-allows.true))
       | else-allows w ↦ rw w.ends-is (filled_without p l.v l.ends l.invariant (sym c.allows.ensures ∙ w.if-allows.false))
     ]
-
-pub returns : goal.returns
-returns c x h = c.loop-v.invariant x ∙ rw (lt-ltb x c.loop-v.v (omega (arith, c.loop-v-test.false)))

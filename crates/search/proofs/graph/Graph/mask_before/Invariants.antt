@@ -6,4 +6,4 @@ use Rattle.search.specs.promises.WalkPairs.{StepsBack}
 use Rattle.search.proofs.graph.Graph.mask_before.Given as goal
 
 abbrev pub invariant-loop-x : goal.invariant-loop-x
-invariant-loop-x l = StepsBack (get_or l.self.table.rows l.u no_row) l.s l.row l.mask l.x
+invariant-loop-x l = StepsBack (get_or l.self.table.rows l.u no_row) l.s.number l.row l.mask l.x

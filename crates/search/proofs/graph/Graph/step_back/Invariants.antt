@@ -7,4 +7,5 @@ use Rattle.search.proofs.graph.Graph.step_back.Given as goal
 
 abbrev pub invariant-loop-u : goal.invariant-loop-u
 invariant-loop-u l =
-    (length l.back.masks ≡ most_parties) × ((x : ℕ) → x < l.u → StepsBack (get_or l.self.table.rows x no_row) l.s l.row (mask_in l.back x) l.self.parties)
+    (length l.back.masks ≡ most_parties)
+    × ((x : ℕ) → x < l.u → StepsBack (get_or l.self.table.rows x no_row) l.s.number l.row (mask_in l.back x) l.self.parties)

@@ -1,6 +1,6 @@
 use Rattle.std.proofs.Common.{arith}
-use mathlib.Core.Logic.{by_cases}
-use native.Mathlib.Decide.{ℕ_discrete}
+use Rattle.std.proofs.Math.Logic.{by_cases}
+use Rattle.std.proofs.Math.Decide.{ℕ_discrete}
 use Rattle.masks.specs.promises.Table.{mask_in}
 use Rattle.masks.proofs.BitLaws.{test_with_same}
 use Rattle.search.proofs.graph.Graph.unmoved.Goals as goal

@@ -13,7 +13,7 @@ loop-at-preserved c =
     let g = c.args.self.now in
     let w = c.args.w in
     let l = c.loop-at in
-    rw (symbols_back_lem w.short l.at c.loop-at-test.true l.auto.at)
+    rw (symbols_back_lem w.short l.at c.loop-at-test.true l.auto.at, ← c.symbol.ensures)
     (walks_back g.parties g.table _ (drop l.at (symbols_in w.word)) l.row c.step_back-row.result l.invariant c.step_back-row.ensures)
 
 pub returns : goal.returns

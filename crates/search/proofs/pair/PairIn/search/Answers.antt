@@ -32,8 +32,10 @@ pub returns-then-is_none : goal.returns-then-is_none
 returns-then-is_none c =
     let q = c.args.self.now in
     let f = c.args.form in
+    let row = get_or q.graph.table.rows q.first no_row in
     search_nowhere q f (omega (arith, c.if-len-eq0.false))
-    (never_steps (place_at f.word.word f.fixed 0) (get_or q.graph.table.rows q.first no_row) _ q.graph.parties c.first_step.result c.first_step.ensures (c.is_none.ensures ∙ ap not c.if-is_none.true))
+    (never_steps (place_at f.word.word f.fixed 0) row _ q.graph.parties c.first_step.result c.first_step.ensures
+    (c.is_none.ensures ∙ ap not c.if-is_none.true))
 
 pub two_steps-requires-clause-unvisited : goal.two_steps-requires-clause-unvisited
 two_steps-requires-clause-unvisited c = unvisited c.args.self.now c.with-visited.ensures

@@ -1,12 +1,11 @@
 use Rattle.std.proofs.Common.{◌≡◌, ◌+◌, List, ◌∷◌, sym, ◌∙◌}
 use Rattle.rebac.specs.promises.Forms.{Place}
 use Rattle.lists.proofs.Cases.{both}
-use Rattle.masks.proofs.BitLaws.{test_yes}
 use Rattle.search.specs.promises.Search.{place_at, places_from}
 use Rattle.search.proofs.SearchLaws.{places_cons, short_fits}
 use Rattle.search.proofs.WalkLaws.{never_steps, within_with, no_step, covers_with, covers_without, target_lost}
 use Rattle.search.proofs.search.Search.parties_before.Goals as goal
-use Rattle.search.proofs.search.Search.parties_before.Goals.{then-v-self-via-then-v-self, then-v-self-via-else-v-self+then-visited-c-eq1}
+use Rattle.search.proofs.search.Search.parties_before.Goals.{then-v-self-via-then-v-self, then-v-self-via-else-v-self+then-has}
 use Rattle.search.proofs.search.Search.parties_before.Goals.{then-is_some, else-is_some}
 
 pub loop-v-preserved-then-v-self : goal.loop-v-preserved-then-v-self
@@ -24,7 +23,7 @@ loop-v-preserved-then-v-self c =
     elim c.then-v-self.branch [
       | then-v-self-via-then-v-self b ↦
           (λ more m o. rw (b.if-v-self.true, q) (target_lost s.graph.parties s.graph.table s.target x ys s.end more))
-      | then-v-self-via-else-v-self+then-visited-c-eq1 b ↦ (λ more m o. both (m l.v (test_yes a.visited l.v b.if-visited-c-eq1.true)) o)
+      | then-v-self-via-else-v-self+then-has b ↦ (λ more m o. both (m l.v (sym b.has.ensures ∙ b.if-has.true)) o)
     ]
 
 pub loop-v-preserved : goal.loop-v-preserved

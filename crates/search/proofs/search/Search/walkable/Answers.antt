@@ -36,4 +36,4 @@ loop-at-preserved c =
 pub returns-then-all-len : goal.returns-then-all-len
 returns-then-all-len c =
     let l = c.loop-at in
-    walked_short l.invariant (omega (arith, l.invariant.after, c.loop-at-test.false)) c.if-all-len.true
+    walked_short l.invariant c.args.self.now.form.word.short (omega (arith, l.invariant.after, c.loop-at-test.false)) c.if-all-len.true

@@ -5,4 +5,6 @@ use Rattle.search.proofs.RoomLaws.{Walked}
 use Rattle.search.proofs.search.Search.walkable.Given as goal
 
 abbrev pub invariant-loop-at : goal.invariant-loop-at
-invariant-loop-at l = Walked l.self l.from l.visited l.mask l.all l.at
+invariant-loop-at l =
+    let s = l.self in
+    Walked s.form.word.word s.form.fixed l.from s.graph.parties s.target l.visited s.graph.table l.mask l.all l.at

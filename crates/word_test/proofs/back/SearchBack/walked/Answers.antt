@@ -22,8 +22,9 @@ loop-at-preserved c =
     let more = c.parties_onward-parties.result in
     let e : l.at + 1 - a.from ≡ suc (l.at - a.from) = omega arith in
     let i : a.from + (l.at - a.from) ≡ l.at = omega arith in
-    let on : Onward b.graph.parties b.graph.table (get_or b.word.word.symbols (a.from + (l.at - a.from)) 0) l.parties a.visited b.graph.parties more =
-    rw i c.parties_onward-parties.ensures in
+    let on : Onward b.graph.parties b.graph.table (get_or b.word.word.symbols (a.from + (l.at - a.from)) 0) l.parties a.visited
+    b.graph.parties more =
+    rw (i, ← c.symbol.ensures) c.parties_onward-parties.ensures in
     let cover = covers_step b.graph.parties b.graph.table b.word.word a.mask a.from a.visited (l.at - a.from) l.parties more
     l.invariant.covers on in
     let joined = within_or l.all more in

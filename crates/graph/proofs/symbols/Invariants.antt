@@ -1,7 +1,0 @@
--- Invariant: the mask is filled for the symbols below s.
-use Rattle.masks.proofs.MaskLaws.{Filled}
-use Rattle.graph.specs.promises.Archive.{symbol_in}
-use Rattle.graph.proofs.symbols.Given as goal
-
-abbrev pub invariant-loop-s : goal.invariant-loop-s
-invariant-loop-s l = Filled (symbol_in l.language l.out l.back) l.s l.mask
