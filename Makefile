@@ -7,7 +7,7 @@
 #     make clean        takes away all that was made here
 
 # permitconv --version and docs/permitconv.1 say it too; tests/run_make.py holds the three together.
-VERSION = 0.13.0
+VERSION = 0.17.0
 
 PREFIX = /usr/local
 DESTDIR =

@@ -55,20 +55,21 @@ enum {
 
 /* Refusals. Nothing stands above them. */
 enum {
-    HEMPMALLET_REFUSED_LENGTH = 1,           /* file: shorter than 8 bytes, or of another length than the header says */
-    HEMPMALLET_REFUSED_HEADER = 2,           /* file: a header field outside its range */
-    HEMPMALLET_REFUSED_LINK = 3,             /* file: a head or next above R */
-    HEMPMALLET_REFUSED_REACHED_TWICE = 4,    /* file: a record reached a second time */
-    HEMPMALLET_REFUSED_NEVER_REACHED = 5,    /* file: a record never reached */
-    HEMPMALLET_REFUSED_TARGET = 6,           /* file: a target of n or more, or the chain's own party */
-    HEMPMALLET_REFUSED_KIND = 7,             /* file: a kind byte that is neither a label below L nor FF */
-    HEMPMALLET_REFUSED_REPEATED = 8,         /* file: target and kind of an earlier record of the chain */
-    HEMPMALLET_REFUSED_LIST = 9,             /* permit: the list's bytes break the layout, or a symbol is not the file's */
-    HEMPMALLET_REFUSED_PAIR = 10,            /* permit: a party of n or more, or the same party twice */
-    HEMPMALLET_REFUSED_SCRATCH = 12,         /* mining: scratch below HEMPMALLET_SCRATCH bytes */
-    HEMPMALLET_REFUSED_NOT_CONVERTIBLE = 13, /* mining: the file is not convertible */
-    HEMPMALLET_REFUSED_OUTPUT = 14,          /* mining: output below the list's length */
-    HEMPMALLET_REFUSED_OWNER = 15            /* file: in edition 2, an owner byte other than the chain's party */
+    HEMPMALLET_REFUSED_LENGTH = 1,            /* file: shorter than 8 bytes, or of another length than the header says */
+    HEMPMALLET_REFUSED_HEADER = 2,            /* file: a header field outside its range */
+    HEMPMALLET_REFUSED_LINK = 3,              /* file: a head or next above R */
+    HEMPMALLET_REFUSED_REACHED_TWICE = 4,     /* file: a record reached a second time */
+    HEMPMALLET_REFUSED_NEVER_REACHED = 5,     /* file: a record never reached */
+    HEMPMALLET_REFUSED_TARGET = 6,            /* file: a target of n or more, or the chain's own party */
+    HEMPMALLET_REFUSED_KIND = 7,              /* file: a kind byte that is neither a label below L, nor 0x80 plus one, nor 0xFF */
+    HEMPMALLET_REFUSED_REPEATED = 8,          /* file: target and kind of an earlier record of the chain */
+    HEMPMALLET_REFUSED_LIST = 9,              /* permit: the list's bytes break the layout, or a symbol is not the file's */
+    HEMPMALLET_REFUSED_PAIR = 10,             /* permit: a party of n or more, or the same party twice */
+    HEMPMALLET_REFUSED_SCRATCH = 12,          /* mining: scratch below HEMPMALLET_SCRATCH bytes */
+    HEMPMALLET_REFUSED_NOT_CONVERTIBLE = 13,  /* mining: the file is not convertible */
+    HEMPMALLET_REFUSED_OUTPUT = 14,           /* mining: output below the list's length */
+    HEMPMALLET_REFUSED_OWNER = 15,            /* file: in edition 2, an owner byte other than the chain's party */
+    HEMPMALLET_REFUSED_KNOWN_AND_UNKNOWN = 16 /* file: target and label of an earlier record of the chain, one known and one unknown */
 };
 
 /* The low byte of a reply. */

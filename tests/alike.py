@@ -2,7 +2,8 @@
 
 A graph is drawn with parties that are alike: a turned ring, parties with the same
 relations, two copies, couples, or none; then a relation or two may be changed, labels
-may be made to stand together, and relations to go both ways. The permits are chosen
+may be made to stand together, and relations to go both ways. In some graphs relations
+of one label are unknown, for parties that are alike mostly the same ones. The permits are chosen
 so that the verdict must go far into a pair's words. Nothing here decides a reply;
 that is quick.py's part.
 """
@@ -15,6 +16,7 @@ MANY = 64           # a pair's first words, after which other ways may be taken
 VERY_MANY = 600
 PAIRS_TRIED = 6
 MOST_STATES = 60000   # of a file that is reckoned
+UNKNOWN_PART = 0.5    # of the files drawn; about a third of those with many words
 
 # How often each must occur at least.
 DEMANDS = {
@@ -23,6 +25,9 @@ DEMANDS = {
     "symbols that hold for the same pairs, convertible": 80, "symbols that hold for the same pairs, rival": 150,
     "a word of 5 symbols or more is added": 15, "several words are added": 100,
     "symbols that follow on walks only, convertible": 5, "symbols that follow on walks only, rival": 40,
+    "unknown relations, convertible": 50, "unknown relations, rival": 100,
+    "a pair's symbols among another's in language 1 or 3": 80,
+    "a pair's symbols among another's in language 1 or 3, very many words": 20,
 }
 DEMANDS.update({"language %d, %s" % (language, reply): 8 for language in range(4) for reply in ("convertible", "rival")})
 
@@ -37,17 +42,26 @@ def drawn(rng):
         n, labels, longest = rng.randint(5, 7), rng.randint(2, 3), rng.randint(5, 8)
     if language in (1, 3) and rng.random() < 0.6:
         n, labels, longest = rng.randint(5, 7), 3, rng.choice([3, 4])
-    edges = rng.choice([turned, same_relations, two_copies, couples, any_relations])(rng, n, labels, rng.choice([0.2, 0.5, 0.8, 0.9]))
+    sort = rng.choice([turned, same_relations, two_copies, couples, any_relations])
+    edges, unknown = sort(rng, n, labels, rng.choice([0.2, 0.5, 0.8, 0.9])), set()
+    if rng.random() < UNKNOWN_PART:
+        chosen = rng.randrange(labels)
+        unknown = {one for one in sort(rng, n, labels, rng.choice([0.1, 0.3])) if one[2] == chosen}
     if rng.random() < 0.3:
         edges |= {(v, u, label) for u, v, label in edges}
     if labels > 1 and rng.random() < 0.4:
-        edges = {edge for edge in edges if edge[2] != labels - 1} | {(u, v, labels - 1) for u, v, label in edges if label == 0}
+        edges, unknown = (together(relations, labels - 1) for relations in (edges, unknown))
     for _ in range(rng.choice([0, 0, 1, 1, 2])):
         edges ^= {(*rng.sample(range(n), 2), rng.randrange(labels))}
     names = rng.sample(range(n), n)
-    edges = {(names[u], names[v], label) for u, v, label in edges}
-    house = brute.House(n, labels, language, longest, edges, set())
+    edges, unknown = ({(names[u], names[v], label) for u, v, label in relations} for relations in (edges - unknown, unknown))
+    house = brute.House(n, labels, language, longest, edges, set(), unknown)
     return house._replace(permits=some_permits(rng, house))
+
+
+def together(relations, last):
+    """The relations with the last label where label 0 is, and nowhere else."""
+    return {one for one in relations if one[2] != last} | {(u, v, last) for u, v, label in relations if label == 0}
 
 
 def turned(rng, n, labels, _):
@@ -135,6 +149,11 @@ def occurrences(house, judged, most):
     graph = brute.enlarged(house)
     if most > VERY_MANY:
         names.append("%s, very many words" % kind)
+    if house.unknown:
+        names.append("unknown relations, %s" % kind)
+    if house.language in (1, 3) and contained(graph):  # only with unknown relations
+        contains = "a pair's symbols among another's in language 1 or 3"
+        names += [contains] + ([contains + ", very many words"] if most > VERY_MANY else [])
     held = [frozenset(pair for pair in graph if symbol in graph[pair]) for symbol in brute.symbols(house)]
     held = [pairs for pairs in held if pairs]
     if len(set(held)) < len(held):
@@ -149,6 +168,12 @@ def occurrences(house, judged, most):
         if any(len(term) > 2 for term in judged.terms):
             names.append("several words are added")
     return names
+
+
+def contained(graph):
+    """Whether some pair has all symbols of another one and more."""
+    held = {frozenset(symbols) for symbols in graph.values()}
+    return any(one < other for one in held for other in held)
 
 
 def walked_only(house, graph):

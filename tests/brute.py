@@ -1,4 +1,4 @@
-"""A slow and plain reckoning of document 01 and Tickets 1 to 4 of document 02, for small files.
+"""A slow and plain reckoning of document 01 and Tickets 1 to 5 of document 02, for small files.
 
 It is written from these alone and shares nothing with the product.
 Words are tuples of symbols, pairs are tuples of two parties, and a rule list
@@ -9,8 +9,9 @@ The calls at the end return tuples such as ("refused", 4) or ("length", 7).
 from collections import namedtuple
 
 PERMIT_KIND = 0xFF
+UNKNOWN = 0x80            # and a label: the kind byte of an unknown relation
 LARGEST_R = 8928
-FILE_REFUSALS = (1, 2, 3, 4, 5, 6, 7, 8, 15)
+FILE_REFUSALS = (1, 2, 3, 4, 5, 6, 7, 8, 15, 16)
 SCRATCH_LENGTH = 1024
 NEXT_WORD_ROOM = 31
 PROGRAM_INPUT = 44713
@@ -22,8 +23,8 @@ RECORD_SIZES = {1: 4, 2: 5}
 # The kinds that each language uses: 0 plain, 1 absent, 2 inverse, 3 absent inverse.
 KINDS = {0: (0,), 1: (0, 1), 2: (0, 2), 3: (0, 1, 2, 3)}
 
-# What an accepted file says. edges holds (u, v, label), permits holds (u, v).
-House = namedtuple("House", "n labels language longest edges permits")
+# What an accepted file says. edges and unknown hold (u, v, label), permits holds (u, v).
+House = namedtuple("House", "n labels language longest edges permits unknown", defaults=[frozenset()])
 
 # The first fault along the chains: the numbers that hold there, the refusal first; the party whose chain
 # it is, and the number of the record. At refusal 5 the record is the first one that is never reached.
@@ -111,33 +112,46 @@ def record_faults(data, party, number, reached, in_chain):
     """The numbers that hold at a record of the party's chain, in the order in which they are checked."""
     n, labels = data[1], data[2]
     target, kind, _ = record_of(data, number)
+    label, is_known = label_of(kind, labels)
     tests = [
         (4, number in reached),
         (15, owner_of(data, number) not in (None, party)),
         (6, target >= n or target == party),
-        (7, kind >= labels and kind != PERMIT_KIND),
+        (7, label is None and kind != PERMIT_KIND),
         (8, (target, kind) in in_chain),
+        (16, label is not None and (target, UNKNOWN + label if is_known else label) in in_chain),
     ]
     return [refusal for refusal, holds_here in tests if holds_here]
 
 
+def label_of(kind, labels):
+    """The label that a kind byte has and whether it says that the relation is known; no label for a permit and for other bytes."""
+    if kind < labels:
+        return kind, True
+    if UNKNOWN <= kind < UNKNOWN + labels:
+        return kind - UNKNOWN, False
+    return None, None
+
+
 def decode(data):
     """What an accepted file says. The file must have passed check."""
-    edges, permits = set(), set()
+    edges, permits, unknown = set(), set(), set()
     for party in range(data[1]):
         link = head_of(data, party)
         while link != 0:
             target, kind, link = record_of(data, link)
-            if kind == PERMIT_KIND:
+            label, is_known = label_of(kind, data[2])
+            if label is None:
                 permits.add((party, target))
             else:
-                edges.add((party, target, kind))
-    return House(data[1], data[2], data[3], data[4], edges, permits)
+                (edges if is_known else unknown).add((party, target, label))
+    return House(data[1], data[2], data[3], data[4], edges, permits, unknown)
 
 
 def entries(house):
-    """The relations and permits as (owner, target, kind byte), by owner, target and kind byte."""
-    return sorted(list(house.edges) + [(u, v, PERMIT_KIND) for u, v in house.permits])
+    """The relations, unknown ones and permits as (owner, target, kind byte), by owner, target and kind byte."""
+    return sorted([*house.edges] + [(u, v, UNKNOWN + label) for u, v, label in house.unknown]
+                  + [(u, v, PERMIT_KIND) for u, v in house.permits])
 
 
 def canonical(house, edition=2):
@@ -186,17 +200,17 @@ def symbols(house):
 
 
 def holds(house, u, v, symbol):
-    """Whether the symbol is one of the house's and holds from u to v."""
+    """Whether the symbol is one of the house's and holds from u to v. Of an unknown relation neither symbol holds."""
     if u == v or not is_symbol(house, symbol):
         return False
     label, kind = symbol // 4, symbol % 4
     if kind == 0:
         return (u, v, label) in house.edges
     if kind == 1:
-        return (u, v, label) not in house.edges
+        return (u, v, label) not in house.edges and (u, v, label) not in house.unknown
     if kind == 2:
         return (v, u, label) in house.edges
-    return (v, u, label) not in house.edges
+    return (v, u, label) not in house.edges and (v, u, label) not in house.unknown
 
 
 def enlarged(house):

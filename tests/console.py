@@ -11,7 +11,7 @@ import os
 import subprocess
 
 GUARD = 16
-REFUSALS = range(1, 16)
+REFUSALS = range(1, 17)
 FIRST_KIND = 128
 
 NUMBER, BYTES, LENGTH = ctypes.c_uint64, ctypes.c_void_p, ctypes.c_size_t

@@ -7,10 +7,12 @@ import brute
 import files
 import run_paths
 import run_permit
+import unknowns
 
 SCRATCH = brute.SCRATCH_LENGTH
 RIVAL_FILES = 2500
 FEWEST_FILES = 20000
+FEWEST_16, FEWEST_8 = 200, 50   # files, with 16 in each order and with 8 for two unknown relations
 
 
 def verdict_occurrences(made, reply):
@@ -40,6 +42,15 @@ def verdict_occurrences(made, reply):
             brute.meets(known.least_paths(*pair), known.words(*reply[1]))
             for pair in permitted if pair < reply[2] and pair != reply[1]) else []
     return found
+
+
+def made_unknown_occurrences(known, other):
+    """The names of what occurs where an absent relation of an accepted file becomes unknown."""
+    one, two = known.verdict(), other.verdict()
+    name = "verdict %s in language %d" % ("changes" if one != two else "stays", known.house.language)
+    if one == two:
+        return [name]
+    return ["verdict changes", name, "verdict changes in edition %d" % known.edition, "%s becomes %s" % (one[0], two[0])]
 
 
 def list_occurrences(known, permitted):
@@ -132,7 +143,15 @@ DEMANDS = {
     "mined with all sizes": 500, "rivals shown": RIVAL_FILES, "rivals shown of several words": 300,
     "larger files: rows": 40, "larger files: convertible": 10, "larger files: rival": 10, "larger files: no-word": 3,
     "larger files: a list above 65,535 bytes": 2, "larger files: edition 1": 10, "larger files: edition 2": 10,
+    "made unknown: verdict changes": 300,
+    "made unknown: verdict changes in language 1": 100, "made unknown: verdict changes in language 3": 100,
+    "made unknown: verdict changes in edition 1": 100, "made unknown: verdict changes in edition 2": 100,
+    "made unknown: verdict stays in language 0": 200, "made unknown: verdict stays in language 2": 200,
+    "made unknown: convertible becomes convertible": 20, "made unknown: convertible becomes no-word": 20,
+    "made unknown: convertible becomes rival": 20, "made unknown: rival becomes convertible": 20,
+    "made unknown: rival becomes no-word": 3, "made unknown: rival becomes rival": 20,
 }
+DEMANDS.update({"larger files: unknown relations in language %d" % language: 2 for language in range(4)})
 DEMANDS.update({"verdict: refused %d" % number: 100 for number in brute.FILE_REFUSALS})
 DEMANDS.update({"%s in edition %d" % (what, edition): fewest for edition in files.EDITIONS for what, fewest in (
     ("verdict: convertible", 2500), ("verdict: no-word", 800), ("verdict: rival", 1200), ("mining: mined", 8000),
@@ -148,5 +167,7 @@ DEMANDS.update({"permit: %s in language %d" % (answer, language): 1000
 
 def lacking(run):
     """The demands that are not met, as lines of text."""
-    few = ["only %d different files" % len(run.files)] if len(run.files) < FEWEST_FILES else []
-    return few + run_paths.unmet(run.account, DEMANDS)
+    lines = ["only %d different files" % len(run.files)] if len(run.files) < FEWEST_FILES else []
+    lines += ["a verdict of language %d changes with an unknown relation" % language for language in (0, 2)
+              if run.account["made unknown: verdict changes in language %d" % language]]
+    return lines + run_paths.unmet(run.account, DEMANDS) + unknowns.lacking(run.account, FEWEST_16, FEWEST_8)

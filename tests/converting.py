@@ -2,8 +2,9 @@
 
 A graph is used for several files that differ in their permits: those of a rule
 list (they convert), the same with one pair changed, and permits at random. Then
-files that are damaged in their bytes or in their parts. The random source is
-the caller's. Nothing here decides a reply; that is brute.py's part.
+files that are damaged in their bytes or in their parts. Of a file there can be one
+more in which an absent relation is unknown. The random source is the caller's.
+Nothing here decides a reply; that is brute.py's part.
 """
 
 from collections import namedtuple
@@ -44,7 +45,7 @@ def of_wide_graph(rng):
 
 def forest(rng):
     """Up to 32 parties in languages 0 and 2. A party but for a few has relations with an earlier one
-    and with no other, so that a pair has one path at most."""
+    and with no other, so that a pair has one path at most. Some absent ones may be unknown."""
     n, labels = rng.randint(7, 32), rng.choice([1, 2, 4, 8])
     names = rng.sample(range(n), n)
     edges = set()
@@ -55,7 +56,8 @@ def forest(rng):
                 if rng.random() < 0.3:
                     ends.reverse()
                 edges.add((*ends, rng.randrange(labels)))
-    return files.Matter(n, labels, rng.choice([0, 2]), rng.choice([2, 4, 31]), edges, set())
+    matter = files.Matter(n, labels, rng.choice([0, 2]), rng.choice([2, 4, 31]), edges, set())
+    return files.some_unknown(rng, matter, files.absent_relations(matter))
 
 
 def short_words(rng):
@@ -83,6 +85,16 @@ def of_matter(rng, matter):
 def with_permits(rng, matter, known, kind, permits):
     data = run_paths.file_of(rng, matter._replace(permits=permits))
     return Made(kind, data, brute.Known(data, known))
+
+
+def with_one_unknown(rng, made):
+    """An accepted file with one absent relation made unknown; None where no relation is absent."""
+    absent = files.absent_relations(made.known.house)
+    if not absent:
+        return None
+    matter = files.made_unknown(made.known.house, [rng.choice(absent)])
+    data = files.lay_out(matter, rng, made.known.edition).bytes()
+    return Made("one made unknown", data, brute.Known(data))
 
 
 def in_other_edition(rng, made):

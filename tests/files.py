@@ -2,20 +2,22 @@
 
 Everything random comes from a random.Random that the caller gives, so that
 a fixed seed gives the same files each time. Where no edition is asked for, it is
-1 or 2, each as likely. Nothing here decides what a file's reply is; that is
-brute.py's part.
+1 or 2, each as likely. About a third of all files have unknown relations. Nothing
+here decides what a file's reply is; that is brute.py's part.
 """
 
 import functools
 from collections import namedtuple
 
 PERMIT_KIND = 0xFF
+UNKNOWN = 0x80            # and a label: the kind byte of an unknown relation
+UNKNOWN_PART = 0.36       # of the matters with relations that may be unknown; others have none
 LARGEST_R = 8928
 EDITIONS = (1, 2)
 LONGEST_FILES = {1: 35784, 2: 44712}
 
-# What a file is to say. edges holds (u, v, label), permits holds (u, v).
-Matter = namedtuple("Matter", "n labels language longest edges permits")
+# What a file is to say. edges and unknown hold (u, v, label), permits holds (u, v).
+Matter = namedtuple("Matter", "n labels language longest edges permits unknown", defaults=[frozenset()])
 
 
 class Draft:
@@ -116,6 +118,31 @@ def matter_of(n, labels, language, longest, indexes):
     return Matter(n, labels, language, longest, edges, permits)
 
 
+def every_relation(n, labels):
+    """All relations that can be, in order."""
+    return [(u, v, label) for u in range(n) for v in range(n) if u != v for label in range(labels)]
+
+
+def absent_relations(matter):
+    """The relations that are neither known nor unknown, in order."""
+    return [one for one in every_relation(matter.n, matter.labels) if one not in matter.edges and one not in matter.unknown]
+
+
+def made_unknown(matter, relations):
+    """The matter with these relations unknown."""
+    relations = set(relations)
+    return matter._replace(edges=matter.edges - relations, unknown=matter.unknown | relations)
+
+
+def some_unknown(rng, matter, relations):
+    """In a part of all matters some of these relations become unknown: one, a few, half of them or all."""
+    relations = sorted(relations)
+    if not relations or rng.random() >= UNKNOWN_PART:
+        return matter
+    count = rng.choice([1, rng.randint(1, 4), (len(relations) + 1) // 2, len(relations)])
+    return made_unknown(matter, rng.sample(relations, min(count, len(relations))))
+
+
 def random_n(rng):
     """Mostly small numbers of parties, now and then up to 32."""
     part = rng.random()
@@ -136,8 +163,8 @@ def random_matter(rng, n=None, labels=None, language=None, longest=None, most=No
         most = 100 if rng.random() < 0.08 else 20
     possible = entries_of(n, labels)
     count = rng.randint(0, min(possible, most))
-    indexes = rng.sample(range(possible), count)
-    return matter_of(n, labels, language, longest, indexes)
+    matter = matter_of(n, labels, language, longest, rng.sample(range(possible), count))
+    return some_unknown(rng, matter, matter.edges)
 
 
 def some_edition(rng):
@@ -156,6 +183,8 @@ def lay_out(matter, rng, edition=None):
         chains[u].append((v, label))
     for u, v in sorted(matter.permits):
         chains[u].append((v, PERMIT_KIND))
+    for u, v, label in sorted(matter.unknown):
+        chains[u].append((v, UNKNOWN + label))
     draft.count = sum(len(chain) for chain in chains)
     draft.records = [None] * draft.count
     free = list(range(1, draft.count + 1))
@@ -323,18 +352,29 @@ def target_own_party(draft, rng, party, number):
     draft.records[number - 1][0] = party
 
 
+def wrong_kinds(draft):
+    """Kind bytes that are neither a label below L, known or unknown, nor FF."""
+    labels = draft.labels
+    return [labels, labels, labels + 1, 0x7F, UNKNOWN + labels, UNKNOWN + labels, UNKNOWN + labels + 1, 0x88, 0xFE]
+
+
 @at_record(some_reached)
 def kind_wrong(draft, rng, party, number):
-    """A kind byte that is neither a label below L nor FF."""
-    labels = draft.labels
-    draft.records[number - 1][1] = rng.choice([labels, labels, labels, labels + 1, 127, 128, 254])
+    """A kind byte that is none."""
+    draft.records[number - 1][1] = rng.choice(wrong_kinds(draft))
 
 
 @at_record(some_reached)
 def target_and_kind_wrong(draft, rng, party, number):
     """Both faults at one record."""
     draft.records[number - 1][0] = rng.choice([party, draft.n, 255])
-    draft.records[number - 1][1] = rng.choice([draft.labels, 254])
+    draft.records[number - 1][1] = rng.choice(wrong_kinds(draft))
+
+
+@at_record(some_reached)
+def kind_turned(draft, rng, party, number):
+    """A known relation becomes unknown or the other way round, which is legal; a permit's kind byte becomes 7F."""
+    draft.records[number - 1][1] ^= UNKNOWN
 
 
 @at_record(some_reached)
@@ -343,16 +383,67 @@ def repeat_in_chain(draft, rng, party, number):
     draft.put_in_chain(party, rng.choice(draft.places(party)), *draft.records[number - 1][:2])
 
 
-@at_record(some_reached)
-def repeat_in_other_chain(draft, rng, party, number):
-    """One more record with target and kind as in another chain: legal where no other fault is made."""
-    target, kind = draft.records[number - 1][:2]
+def put_in_other_chain(draft, rng, party, target, kind):
+    """One more record in a chain of another party that has none with this target and label; answers whether there is such a party."""
     others = [u for u in range(draft.n) if u not in (party, target)
-              and all(draft.records[r - 1][:2] != [target, kind] for r in draft.chain(u))]
+              and all(draft.records[r - 1][:2] not in ([target, kind], [target, kind ^ UNKNOWN]) for r in draft.chain(u))]
     if not others:
         return False
     other = rng.choice(others)
     draft.put_in_chain(other, rng.choice(draft.places(other)), target, kind)
+    return True
+
+
+@at_record(some_reached)
+def repeat_in_other_chain(draft, rng, party, number):
+    """One more record with target and kind as in another chain: legal where no other fault is made."""
+    return put_in_other_chain(draft, rng, party, *draft.records[number - 1][:2])
+
+
+# Damages of relations, known or unknown.
+
+def some_related(draft, rng):
+    """Some party and a record of its chain that says a relation, known or unknown; None where there is none."""
+    related = [(u, r) for u in range(draft.n) for r in draft.chain(u) if draft.records[r - 1][1] != PERMIT_KIND]
+    return rng.choice(related) if related else None
+
+
+@at_record(some_related)
+def repeat_of_unknown(draft, rng, party, number):
+    """A relation becomes unknown, and one more record in the chain says so too."""
+    draft.records[number - 1][1] |= UNKNOWN
+    draft.put_in_chain(party, rng.choice(draft.places(party)), *draft.records[number - 1][:2])
+
+
+@at_record(some_related)
+def repeat_as_opposite(draft, rng, party, number):
+    """One more record in a chain, the opposite of another one: of the same target and label, one of them known and one unknown."""
+    target, kind = draft.records[number - 1][:2]
+    draft.put_in_chain(party, rng.choice(draft.places(party)), target, kind ^ UNKNOWN)
+
+
+@at_record(some_related)
+def opposite_in_other_chain(draft, rng, party, number):
+    """The same, but in another chain: legal where no other fault is made."""
+    target, kind = draft.records[number - 1][:2]
+    return put_in_other_chain(draft, rng, party, target, kind ^ UNKNOWN)
+
+
+def led_back_to_opposite(draft, rng):
+    """A chain has the opposite of a record of an earlier chain, and ends in that record."""
+    fit = []
+    for party in range(draft.n):
+        said = [draft.records[number - 1][:2] for number in draft.chain(party)]
+        fit += [(party, number) for u in range(party) for number in draft.chain(u)
+                if draft.records[number - 1][1] != PERMIT_KIND and draft.records[number - 1][0] != party
+                and draft.records[number - 1][:2] not in said]
+    if not fit:
+        return False
+    party, number = rng.choice(fit)
+    target, kind = draft.records[number - 1][:2]
+    if [target, kind ^ UNKNOWN] not in [draft.records[one - 1][:2] for one in draft.chain(party)]:
+        draft.put_in_chain(party, rng.choice(draft.places(party)), target, kind ^ UNKNOWN)
+    draft.set_link(last_place(draft, party), number)
     return True
 
 
@@ -397,13 +488,26 @@ def owner_and_target_wrong(draft, rng, party, number):
 @at_record(some_owned)
 def owner_and_kind_wrong(draft, rng, party, number):
     """Both faults at one record."""
-    draft.records[number - 1][1], draft.records[number - 1][3] = rng.choice([draft.labels, 254]), wrong_owner(draft, rng, party)
+    draft.records[number - 1][1], draft.records[number - 1][3] = rng.choice(wrong_kinds(draft)), wrong_owner(draft, rng, party)
 
 
 @at_record(some_owned)
 def owner_wrong_at_repeat(draft, rng, party, number):
     """A chain ends in one more record, with target and kind as in an earlier one and another owner."""
     added = draft.put_in_chain(party, last_place(draft, party), *draft.records[number - 1][:2])
+    draft.records[added - 1][3] = wrong_owner(draft, rng, party)
+
+
+def some_owned_relation(draft, rng):
+    """The same for a record that says a relation."""
+    return some_related(draft, rng) if draft.body == 2 else None
+
+
+@at_record(some_owned_relation)
+def owner_wrong_at_opposite(draft, rng, party, number):
+    """A chain ends in one more record, the opposite of an earlier one, with another owner."""
+    target, kind = draft.records[number - 1][:2]
+    added = draft.put_in_chain(party, last_place(draft, party), target, kind ^ UNKNOWN)
     draft.records[added - 1][3] = wrong_owner(draft, rng, party)
 
 
@@ -456,13 +560,14 @@ def count_off_by_one(draft, rng):
 
 OWNER_DAMAGES = [
     owner_another_party, owner_too_high, owner_and_target_wrong, owner_and_kind_wrong,
-    owner_wrong_at_repeat, owner_wrong_unreached,
+    owner_wrong_at_repeat, owner_wrong_at_opposite, owner_wrong_unreached,
 ]
+UNKNOWN_DAMAGES = [kind_turned, repeat_of_unknown, repeat_as_opposite, opposite_in_other_chain, led_back_to_opposite]
 DAMAGES = [
     link_too_high, cycle, crossed, crossed_at_own_party, led_back, tails_exchanged,
     chain_cut_off, record_skipped, record_unnamed, cycle_unreached,
     target_too_high, target_own_party, kind_wrong, target_and_kind_wrong,
-    repeat_in_chain, repeat_in_other_chain, *OWNER_DAMAGES,
+    repeat_in_chain, repeat_in_other_chain, *UNKNOWN_DAMAGES, *OWNER_DAMAGES,
     header_field_wrong, header_field_other, header_of_other_edition, count_off_by_one,
 ]
 
@@ -470,7 +575,7 @@ DAMAGES = [
 CHAIN_DAMAGES = [
     link_too_high, cycle, crossed, crossed_at_own_party, led_back, tails_exchanged,
     chain_cut_off, record_skipped, record_unnamed, target_too_high,
-    target_own_party, kind_wrong, repeat_in_chain, repeat_in_other_chain, *OWNER_DAMAGES,
+    target_own_party, kind_wrong, repeat_in_chain, repeat_in_other_chain, *UNKNOWN_DAMAGES, *OWNER_DAMAGES,
 ]
 LENGTH_AND_HEADER_DAMAGES = [header_field_wrong, header_field_other, header_of_other_edition, count_off_by_one]
 
@@ -497,7 +602,7 @@ def byte_changed(data, rng):
     """One byte becomes another one, often a near one or one of a few."""
     at = rng.randrange(len(data))
     old = data[at]
-    new = rng.choice([old ^ 1, (old + 1) % 256, (old - 1) % 256, 0, 1, 255, rng.randrange(256)])
+    new = rng.choice([old ^ 1, old ^ UNKNOWN, (old + 1) % 256, (old - 1) % 256, 0, 1, 255, rng.randrange(256)])
     if new == old:
         new = old ^ 1
     return data[:at] + bytes([new]) + data[at + 1:]
@@ -567,8 +672,10 @@ def random_links(rng):
     highest = count + (1 if rng.random() < 0.2 else 0)
     targets = n + (1 if rng.random() < 0.2 else 0)
     kinds = list(range(labels)) + [PERMIT_KIND]
+    if rng.random() < 0.5:
+        kinds += range(UNKNOWN, UNKNOWN + labels)
     if rng.random() < 0.2:
-        kinds.append(labels)
+        kinds.append(rng.choice([labels, UNKNOWN + labels]))
     draft.heads = [rng.randint(0, highest) for _ in range(n)]
     for _ in range(count):
         draft.add_record(rng.randrange(targets), rng.choice(kinds), rng.randint(0, highest), rng.randrange(n + 1))
@@ -608,7 +715,7 @@ def highest_values(rng):
     files = []
     for n, labels in ((32, 8), (2, 1), (5, 8), (32, 1)):
         for target in (n - 1, n):
-            for kind in (labels - 1, labels, 254, PERMIT_KIND):
+            for kind in (labels - 1, labels, 0x7F, UNKNOWN + labels - 1, UNKNOWN + labels, 0x88, 0xFE, PERMIT_KIND):
                 for edition in EDITIONS:
                     draft = Draft(n, labels, rng.randint(0, 3), rng.randint(1, 31), edition)
                     draft.heads[0] = draft.add_record(target, kind, 0, 0)
@@ -629,20 +736,26 @@ def highest_owners(rng):
 
 # --------------------------------------------------------------- large files
 
-def full_draft(rng, language, longest, edition=None):
-    """n 32, L 8 and R 8,928: every relation and every permit that can be."""
-    possible = entries_of(32, 8)
-    return lay_out(matter_of(32, 8, language, longest, range(possible)), rng, edition)
+def full_draft(rng, language, longest, edition=None, unknown=0):
+    """n 32, L 8 and R 8,928: every permit that can be, and every relation; this part of them is unknown."""
+    matter = matter_of(32, 8, language, longest, range(entries_of(32, 8)))
+    return lay_out(made_unknown(matter, {one for one in sorted(matter.edges) if rng.random() < unknown}), rng, edition)
+
+
+def some_full_draft(rng, edition):
+    """A full draft in any language, with unknown relations at times."""
+    return full_draft(rng, rng.randint(0, 3), rng.randint(1, 31), edition, rng.choice([0, 0, 0.5, 1]))
 
 
 def full_files(rng):
     """Full files, valid and with one fault: somewhere, at the end, or at a certain record."""
-    files = [full_draft(rng, language, longest, edition).bytes()
-             for language, longest in ((0, 31), (1, 1), (2, 30), (3, 31)) for edition in EDITIONS]
+    files = [full_draft(rng, language, longest, edition, unknown).bytes()
+             for language, longest in ((0, 31), (1, 1), (2, 30), (3, 31)) for edition in EDITIONS for unknown in (0, 0.5)]
+    files += [full_draft(rng, 3, 31, edition, 1).bytes() for edition in EDITIONS]
     for fault in (link_too_high, cycle, crossed, tails_exchanged, chain_cut_off,
-                  record_skipped, target_too_high, target_own_party, kind_wrong, *OWNER_DAMAGES):
+                  record_skipped, target_too_high, target_own_party, kind_wrong, kind_turned, *OWNER_DAMAGES):
         for edition in EDITIONS:
-            draft = full_draft(rng, rng.randint(0, 3), rng.randint(1, 31), edition)
+            draft = some_full_draft(rng, edition)
             if fault(draft, rng):
                 files.append(draft.bytes())
     for edition in EDITIONS:
@@ -655,9 +768,11 @@ def full_files(rng):
 def full_files_with_fault_at_end(rng, edition):
     """Full files whose only fault is at the last record of the last chain."""
     files = []
-    draft = full_draft(rng, 0, 31, edition)
+    draft = full_draft(rng, 0, 31, edition, 0.5)
     end = draft.chain(31)[-1]
     first = draft.chain(31)[0]
+    known, unknown = (next(draft.records[number - 1][:2] for number in draft.chain(31)[:-1] if draft.records[number - 1][1] in kinds)
+                      for kinds in (range(8), range(UNKNOWN, UNKNOWN + 8)))
     of_party_0 = draft.chain(0)[0]
     sound = list(draft.records[end - 1])
     target, kind = sound[:2]
@@ -668,8 +783,13 @@ def full_files_with_fault_at_end(rng, edition):
         [32, kind, 0, 31],
         [31, kind, 0, 31],
         [target, 8, 0, 31],
-        [target, 254, 0, 31],
+        [target, 0x7F, 0, 31],
+        [target, 0x88, 0, 31],
+        [target, 0xFE, 0, 31],
         draft.records[first - 1][:2] + [0, 31],
+        unknown + [0, 31],
+        [known[0], known[1] + UNKNOWN, 0, 31],
+        [unknown[0], unknown[1] - UNKNOWN, 0, 31],
     ]
     if edition == 2:
         faults += [[target, kind, 0, 0], [target, kind, 0, 32], [31, 8, LARGEST_R + 1, 30]]
@@ -685,7 +805,7 @@ def full_files_with_fault_at_end(rng, edition):
 
 def full_files_with_fault_at_record(rng, number):
     """A full file with this record reached a second time, and one with it never reached."""
-    draft = full_draft(rng, 3, 31)
+    draft = some_full_draft(rng, None)
     end = last_place(draft, 31)
     draft.set_link(end, number)
     files = [draft.bytes()]
@@ -724,11 +844,12 @@ def limit_of_count_files(rng):
 
 
 def one_chain_draft(rng, party, length, count):
-    """n 32, L 8: one chain of the given length; records are made up to the given count."""
+    """n 32, L 8: one chain of the given length, in a part of the drafts with unknown relations; records are made up to the given count."""
     draft = Draft(32, 8, rng.randint(0, 3), rng.randint(1, 31), some_edition(rng))
     draft.count = count
-    kinds = list(range(8)) + [PERMIT_KIND]
-    sorts = [[target, kind] for target in range(32) if target != party for kind in kinds]
+    part = rng.choice([0.5, 1]) if rng.random() < UNKNOWN_PART else 0
+    sorts = [[target, label + UNKNOWN if rng.random() < part else label] for target in range(32) if target != party for label in range(8)]
+    sorts += [[target, PERMIT_KIND] for target in range(32) if target != party]
     rng.shuffle(sorts)
     numbers = list(range(1, count + 1))
     rng.shuffle(numbers)
@@ -750,7 +871,7 @@ def deep_files(rng):
         files.append(one_chain_draft(rng, party, 279, 280).bytes())
     for length in (1, 279, 280, LARGEST_R):
         files.append(one_chain_draft(rng, rng.randrange(32), length, LARGEST_R).bytes())
-    for fault in (link_too_high, cycle, target_too_high, target_own_party, kind_wrong):
+    for fault in (link_too_high, cycle, target_too_high, target_own_party, kind_wrong, repeat_as_opposite, repeat_of_unknown):
         draft = one_chain_draft(rng, rng.randrange(32), 279, 279)
         fault(draft, rng)
         files.append(draft.bytes())
@@ -770,7 +891,7 @@ def middle_files(rng, how_many):
         count = rng.randint(256, min(possible, 700)) if possible > 256 else possible
         matter = matter_of(n, labels, rng.randint(0, 3), rng.randint(1, 31),
                            rng.sample(range(possible), count))
-        draft = lay_out(matter, rng)
+        draft = lay_out(some_unknown(rng, matter, matter.edges), rng)
         if number % 2:
             rng.choice(CHAIN_DAMAGES)(draft, rng)
         files.append(draft.bytes())

@@ -23,6 +23,7 @@ Graph = namedtuple("Graph", "name data calls")
 Call = namedtuple("Call", "call first second word answer room")
 
 PAIRS_OF_GRAPH = 60
+MOST_UNKNOWN = 300
 
 
 def path(first, second, word, answer, room=None):
@@ -33,9 +34,13 @@ def next_word(first, second, word, answer, room=None):
     return Call(script.NEXT_WORD, first, second, tuple(word), answer, room)
 
 
-def file_of(rng, n, labels, language, edges, permits=(), longest=None):
-    """A house file; D is n - 1 where it isn't given."""
-    matter = files.Matter(n, labels, language, longest or n - 1, set(edges), set(permits))
+def file_of(rng, n, labels, language, edges, permits=(), longest=None, unknown=()):
+    """A house file; D is n - 1 where it isn't given. Languages 0 and 2 have no symbol for what is absent, so that there an absent
+    relation may as well be unknown; in a part of the files some are."""
+    matter = files.Matter(n, labels, language, longest or n - 1, set(edges), set(permits), set(unknown))
+    if language in (0, 2):
+        absent = files.absent_relations(matter)
+        matter = files.some_unknown(rng, matter, rng.sample(absent, min(MOST_UNKNOWN, len(absent))))
     return files.lay_out(matter, rng).bytes()
 
 
@@ -210,13 +215,15 @@ def tree_path(parent, a, b):
 
 # ---------------------------------------------------- every step has the same symbols
 
-def uniform(rng, n, labels, language, present):
-    """The labels below `present` hold between all parties and the others nowhere, so that each step
-    has the same symbols. The pair's words are all words of those symbols with up to n - 1 of them,
-    and the least path of each takes the lowest other parties, in order."""
+def uniform(rng, n, labels, language, present, unknown=0):
+    """The labels below `present` hold between all parties, the last ones are unknown between all, and
+    the others hold nowhere, so that each step has the same symbols. The pair's words are all words of
+    those symbols with up to n - 1 of them, and the least path of each takes the lowest other parties,
+    in order."""
     edges = [(a, b, label) for a, b in all_pairs(n) for label in range(present)]
-    # Plain and inverse hold of a label that is present, absent and absent inverse of another.
-    alphabet = [s for s in legal_symbols(labels, language) if (s // 4 < present) == (s % 2 == 0)]
+    known = labels - unknown
+    # Plain and inverse hold of a label that is present, absent and absent inverse of another, and none of an unknown one.
+    alphabet = [s for s in legal_symbols(labels, language) if s // 4 < known and (s // 4 < present) == (s % 2 == 0)]
     outside = [s for s in legal_symbols(labels, language) if s not in alphabet]
     calls = []
     for a, b in some_pairs(rng, n)[::3]:
@@ -228,8 +235,17 @@ def uniform(rng, n, labels, language, present):
                 early = rng.randrange(min(k, 3))
                 calls.append(path(a, b, word[:early] + [rng.choice(outside)] + word[early + 1:], None))
         calls += uniform_next_words(rng, n, a, b, alphabet, outside)
-    data = file_of(rng, n, labels, language, edges, all_pairs(n) if present == 8 else ())
-    return Graph("language %d, %d of %d labels everywhere" % (language, present, labels), data, calls)
+    data = file_of(rng, n, labels, language, edges, all_pairs(n) if present == 8 else (),
+                   unknown=[(a, b, label) for a, b in all_pairs(n) for label in range(known, labels)])
+    return Graph(uniform_name(labels, language, present, unknown), data, calls)
+
+
+# Numbers of labels, the language, labels that hold everywhere, and unknown ones.
+PARTLY_UNKNOWN = [(3, 0, 1, 1), (3, 1, 1, 1), (3, 2, 1, 1), (3, 3, 1, 1), (8, 1, 1, 7), (8, 3, 2, 6)]
+
+
+def uniform_name(labels, language, present, unknown):
+    return "language %d, %d of %d labels everywhere, %d unknown" % (language, present, labels, unknown)
 
 
 def uniform_next_words(rng, n, a, b, alphabet, outside):
@@ -289,8 +305,10 @@ def turned_runs(middle):
 def forced_start(rng, n, language, rest):
     """A line in language 1 or 3. From 0, plain symbols force the walk along the line. So the words
     that begin with n - rest plains go on like the words of the last `rest` parties, which are a line
-    of their own; those are few enough to be listed."""
-    small = file_of(rng, rest, 1, language, [(u, u + 1, 0) for u in range(rest - 1)])
+    of their own; those are few enough to be listed. Two relations there may be unknown, and others
+    elsewhere, which the walk doesn't ask for."""
+    unknown = {(2, 0, 0), (1, 3, 0)} if rng.random() < 0.5 else set()
+    small = file_of(rng, rest, 1, language, [(u, u + 1, 0) for u in range(rest - 1)], unknown=unknown)
     tails = brute.Known(small).least_paths(0, rest - 1)
     start, legal, calls = n - rest, legal_symbols(1, language), []
     plains = (0,) * start
@@ -311,15 +329,29 @@ def forced_start(rng, n, language, rest):
             calls.append(path(0, n - 1, plains + tail, None))
         if later:
             calls.append(next_word(0, n - 1, plains + tail, plains + later[0]))
-    data = file_of(rng, n, 1, language, [(u, u + 1, 0) for u in range(n - 1)])
+    elsewhere = {(v, u, 0) for u in range(start) for v in range(u + 1, n) if unknown and rng.random() < 0.2}
+    data = file_of(rng, n, 1, language, [(u, u + 1, 0) for u in range(n - 1)],
+                   unknown={(start + u, start + v, 0) for u, v, _ in unknown} | elsewhere)
     return Graph("line in language %d, forced start" % language, data, calls)
+
+
+def thrown(rng, n, labels):
+    """Relations by the throw of a coin, and unknown ones; in some throws none is unknown."""
+    part = rng.choice([0, 0, 0.3])
+    edges, unknown = set(), set()
+    for one in files.every_relation(n, labels):
+        if rng.random() < part:
+            unknown.add(one)
+        elif rng.random() < 0.5:
+            edges.add(one)
+    return edges, unknown
 
 
 def planted(rng, n):
     """Relations by the throw of a coin, language 3. A path is chosen and with it a word; the word one
     lower in its last symbol is given. No word stands between the two, so the chosen one is next."""
-    edges = {(a, b, label) for a, b in all_pairs(n) for label in range(8) if rng.random() < 0.5}
-    data, calls = file_of(rng, n, 8, 3, edges), []
+    edges, unknown = thrown(rng, n, 8)
+    data, calls = file_of(rng, n, 8, 3, edges, unknown=unknown), []
     graph = brute.enlarged(brute.decode(data))
     while len(calls) < 60:
         parties = rng.sample(range(n), rng.randint(2, n))
@@ -360,6 +392,7 @@ def graphs(rng, n):
     made += [uniform(rng, n, labels, language, present)
              for language in range(4) for labels, present in ((2, 1), (1, 0), (8, 8))
              if (language, present) not in ((0, 0), (2, 0))]  # those two have no words at all
+    made += [uniform(rng, n, labels, language, present, unknown) for labels, language, present, unknown in PARTLY_UNKNOWN]
     made += [ranks(rng, n), forced_start(rng, n, 1, rest), forced_start(rng, n, 3, rest)]
     made += [planted(rng, n), refusals(rng, n), shorter_limit(rng, n)]
     return made

@@ -5,8 +5,9 @@ comment that says why its answers are what they are. All sorts take the number
 of parties, and test_console.py holds the small ones against the listing.
 
 Only files are here whose words a search finds soon. In languages 1 and 3 each
-two parties have a symbol, so that a pair has words without number; where such
-a file isn't convertible all of them would have to be tried, and D is 3 or less.
+two parties have a symbol, where nothing is unknown, so that a pair has words
+without number; where such a file isn't convertible all of them would have to be
+tried, and D is 3 or less.
 """
 
 import random
@@ -15,6 +16,7 @@ from collections import namedtuple
 import brute
 import converting
 import large
+import unknowns
 
 LONGEST_MINED_TWICE = 20000   # a longer list is mined once only, so that a run ends soon
 
@@ -92,10 +94,11 @@ def rings(rng, n):
 def rings_with_absence(rng, n):
     """The ring in languages 1 and 3, D 3, permits of one step on but for the last pair. (0, 1) has the
     word 00. No other unpermitted pair has it, and turning the ring shows that the last has all words
-    of (0, 1)."""
-    return [rival("ring in language %d, one pair lacking" % language,
-                  large.file_of(rng, n, 1, language, ring_edges(n), apart(n, 1) - {(n - 1, 0)}, 3), (0, 1), (n - 1, 0))
-            for language in (1, 3)]
+    of (0, 1); also where all relations two steps on are unknown."""
+    two_on = {(*pair, 0) for pair in apart(n, 2)}
+    return [rival("ring in language %d, one pair lacking%s" % (language, ", two steps on unknown" if unknown else ""),
+                  large.file_of(rng, n, 1, language, ring_edges(n), apart(n, 1) - {(n - 1, 0)}, 3, unknown), (0, 1), (n - 1, 0))
+            for language in (1, 3) for unknown in (set(), two_on)]
 
 
 def two_rings(rng, n):
@@ -256,28 +259,28 @@ def one_symbol(rng, n, language, labels):
     """Relations by the throw of a coin; permitted are the pairs that have each of some symbols. An
     unpermitted pair lacks one of them, so that of a permitted pair's words it lacks one of one symbol,
     and these come before the others: mining is that of the sets of symbols."""
-    edges = {(a, b, label) for a, b in large.all_pairs(n) for label in range(labels) if rng.random() < 0.5}
-    sets = symbol_sets(n, labels, language, edges)
+    edges, unknown = large.thrown(rng, n, labels)
+    sets = symbol_sets(n, labels, language, edges, unknown)
     some = rng.choice([choice for (choice,) in sets.values() if choice])
     chosen = set(rng.sample(sorted(some), min(2, len(some))))
     permits = {pair for pair, (choice,) in sets.items() if chosen <= choice}
-    data = large.file_of(rng, n, labels, language, edges, permits)
+    data = large.file_of(rng, n, labels, language, edges, permits, unknown=unknown)
     return row_of_sets("one symbol in language %d" % language, data, only_with_symbols(sets), permits)
 
 
 def one_step(rng, n, language, labels, part):
     """Any permits at D 1: all words have one symbol, and verdict and mining are those of the sets of
     symbols, whatever stands in the way."""
-    edges = {(a, b, label) for a, b in large.all_pairs(n) for label in range(labels) if rng.random() < 0.5}
-    sets = symbol_sets(n, labels, language, edges)
+    edges, unknown = large.thrown(rng, n, labels)
+    sets = symbol_sets(n, labels, language, edges, unknown)
     permits = {pair for pair in sets if rng.random() < part}
-    data = large.file_of(rng, n, labels, language, edges, permits, 1)
+    data = large.file_of(rng, n, labels, language, edges, permits, 1, unknown)
     return row_of_sets("D 1 in language %d" % language, data, only_with_symbols(sets), permits)
 
 
-def symbol_sets(n, labels, language, edges):
+def symbol_sets(n, labels, language, edges, unknown):
     """For each pair the list of one set, that of the symbols that hold."""
-    house = brute.House(n, labels, language, 1, edges, set())
+    house = brute.House(n, labels, language, 1, edges, set(), unknown)
     return {pair: [frozenset(symbols)] for pair, symbols in brute.enlarged(house).items()}
 
 
@@ -330,6 +333,7 @@ def ask_all(run):
         made = converting.Made(row.name, row.data, None)
         run.hold("verdict", made, row.name, row.reply, run.functions.verdict(row.data))
         run.count("larger files", ["rows", row.reply[0], "edition %d" % row.data[0]])
+        run.count("larger files", ["unknown relations in language %d" % row.data[3]] if unknowns.has_unknown(row.data) else [])
         if row.terms is None:
             hold_mining(run, made, ("refused", 13), 40)
             continue

@@ -123,17 +123,19 @@ def two_trees(rng, n):
 
 # ------------------------------------------------------------------------------ others
 
-def uniform(rng, n, labels, language, present):
-    """The labels below `present` hold between all parties and the others nowhere, so that each step has the same symbols and every
-    row of different parties is a path. A pair has each word of those symbols with up to n - 1 of them. Another symbol holds
-    nowhere, so that no path has an end of the word with it: the length counts the symbols after its last place. Those are three at
-    most, since the search may pass all paths that have them; n - 2 is the most where the first party isn't touched."""
+def uniform(rng, n, labels, language, present, unknown=0):
+    """The labels below `present` hold between all parties, the last ones are unknown between all, and the others hold nowhere, so that
+    each step has the same symbols and every row of different parties is a path. A pair has each word of those symbols with up to n - 1
+    of them. Another symbol holds nowhere, so that no path has an end of the word with it: the length counts the symbols after its last
+    place. Those are three at most, since the search may pass all paths that have them; n - 2 is the most where the first party isn't
+    touched."""
     edges = [(a, b, label) for a, b in large.all_pairs(n) for label in range(present)]
+    nowhere = [(a, b, label) for a, b in large.all_pairs(n) for label in range(labels - unknown, labels)]
     legal = large.legal_symbols(labels, language)
-    alphabet = [s for s in legal if (s // 4 < present) == (s % 2 == 0)]
+    alphabet = [s for s in legal if s // 4 < labels - unknown and (s // 4 < present) == (s % 2 == 0)]
     outside = [s for s in legal if s not in alphabet]
-    data, rows = large.file_of(rng, n, labels, language, edges), []
-    name = "language %d, %d of %d labels everywhere" % (language, present, labels)
+    data, rows = large.file_of(rng, n, labels, language, edges, unknown=nowhere), []
+    name = large.uniform_name(labels, language, present, unknown)
     for first, second in rng.sample(large.all_pairs(n), 6):
         for k in {1, 2, rng.randint(1, n - 1), n - 1}:
             word = tuple(rng.choices(alphabet, k=k))
@@ -170,8 +172,8 @@ def rare_label(rng, n):
 
 def planted(rng, n):
     """Relations by the throw of a coin, language 3. A path is chosen and with it a word: yes."""
-    edges = {(a, b, label) for a, b in large.all_pairs(n) for label in range(8) if rng.random() < 0.5}
-    data, rows = large.file_of(rng, n, 8, 3, edges), []
+    edges, unknown = large.thrown(rng, n, 8)
+    data, rows = large.file_of(rng, n, 8, 3, edges, unknown=unknown), []
     graph = brute.enlarged(brute.decode(data))
     for _ in range(60):
         parties = rng.sample(range(n), rng.randint(2, min(n, LONGEST_PLANTED)))
@@ -211,6 +213,7 @@ def rows(rng, n):
     made += [uniform(rng, n, labels, language, present)
              for language in range(4) for labels, present in ((2, 1), (1, 0), (8, 8))
              if (language, present) not in ((0, 0), (2, 0))]  # those two have no words at all
+    made += [uniform(rng, n, labels, language, present, unknown) for labels, language, present, unknown in large.PARTLY_UNKNOWN]
     made += [rare_label(rng, n), planted(rng, n)]
     return [row for rows_of_graph in made for row in rows_of_graph]
 

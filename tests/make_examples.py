@@ -2,8 +2,8 @@
 
     python3 tests/make_examples.py [FOLDER]
 
-a, b and c are 01's cases, a2 is case A in edition 2. archive32 is an archive of 32 parties: its permits
-are those of four rules, so it converts. The random source is fixed, so that the
+a, b and c are 01's cases, a2 is case A in edition 2. unknown has a relation that nobody knows. archive32
+is an archive of 32 parties: its permits are those of four rules, so it converts. The random source is fixed, so that the
 same bytes are written each time.
 """
 
@@ -66,6 +66,7 @@ def examples():
     """The bytes of each file, by its name."""
     made = {"%s.house" % letter.lower(): stored.case_file(letter) for letter in "ABC"}
     made["a2.house"] = stored.case_file("A in edition 2")
+    made["unknown.house"] = stored.case_file("(0,1) unknown, permit (1,0), edition 2")
     made["archive32.house"] = archive32()
     return made
 

@@ -18,6 +18,7 @@ import comparing
 import files
 import run_paths
 import script
+import unknowns
 
 FEWEST_FILES = 20000
 FEWEST_OF_EACH = 200
@@ -89,13 +90,19 @@ WRONG_EDITIONS = (0, 3, 255)
 DEMANDS = {
     "both hold: 4 and 15": 200, "both hold: 15 and 6": 200, "both hold: 15 and 7": 200, "both hold: 15 and 8": 200,
     "both hold: 4 and 8": 100, "both hold: 4 and 6": 100, "both hold: 6 and 7": 100,
+    "both hold: 15 and 16": 200, "both hold: 4 and 16": 200,
     "owner: another party of the file": 200, "owner: n": 100, "owner: above n": 100, "owner: 255": 100,
     "owner: right at a record refused 6": 200, "owner: right at a record refused 7": 200, "owner: right at a record refused 8": 200,
+    "owner: right at a record refused 16": 200,
     "owner: n or more at a record never reached": 200,
     "edition: 2 with the length of 1 refused 1": 200, "edition: 1 with the length of 2 refused 1": 200,
     "edition: no records, accepted as 1": 50, "edition: no records, accepted as 2": 50,
     "edition: the same matter in both, the same lines": MATTERS_IN_BOTH,
+    "kind: unknown, label 7": 150, "kind: unknown, label L - 1": FEWEST_OF_EACH,
 }
+DEMANDS.update({"kind: %s refused 7" % name: 50 for name in ("L", "80 + L", "7F", "88", "FE")})
+DEMANDS.update({"known beside unknown: %s" % name: 500 for name in (
+    "one pair, two labels", "one owner and label, two targets", "one target and label, two owners", "one label there and back")})
 DEMANDS.update({"edition: %d of %s length refused 2" % (edition, which): 10
                 for edition in WRONG_EDITIONS for which in ("a right", "another")})
 DEMANDS.update({"accepted: edition %d in language %d" % (edition, language): FEWEST_OF_EACH
@@ -108,7 +115,7 @@ class Account:
 
     def __init__(self):
         self.different = set()
-        self.replies = {number: 0 for number in [*range(9), 15]}
+        self.replies = {number: 0 for number in [0, *brute.FILE_REFUSALS]}
         self.languages = {language: 0 for language in range(4)}
         self.others = Counter()
         self.limits = {}
@@ -124,7 +131,7 @@ class Account:
 
     def count(self, data):
         reply = brute.check(data)
-        self.different.add(data)
+        unknowns.count(self.others, self.different, data, reply)
         self.replies[reply] += 1
         if reply == 0:
             self.languages[data[3]] += 1
@@ -173,7 +180,7 @@ class Account:
         for name, times in self.limits.items():
             if times == 0:
                 lines.append("limit missing: %s" % name)
-        return lines + run_paths.unmet(self.others, DEMANDS)
+        return lines + run_paths.unmet(self.others, DEMANDS) + unknowns.lacking(self.others, FEWEST_OF_EACH, FEWEST_OF_EACH)
 
     def text(self):
         lines = ["accepted %d (by language: %s)" % (
@@ -192,11 +199,32 @@ def occurrences(data, reply):
         right = len(data) in [files.length_in(one, data) for one in files.EDITIONS]
         return ["edition: %d of %s length refused 2" % (edition, "a right" if right else "another")]
     if reply == 0:
-        found = ["accepted: edition %d" % edition, "accepted: edition %d in language %d" % (edition, data[3])]
+        found = ["accepted: edition %d" % edition] + beside(brute.decode(data))
         return found + (["edition: no records, accepted as %d" % edition] if data[6:8] == b"\0\0" else [])
     if reply == 1 and len(data) == files.length_in(files.other_edition(edition), data):
         return ["edition: %d with the length of %d refused 1" % (edition, files.other_edition(edition))]
     return chain_occurrences(data, reply) if reply not in (1, 2) else []
+
+
+def beside(house):
+    """What is special in an accepted file's unknown relations, and in the known ones beside them."""
+    known, unknown = house.edges, house.unknown
+    labels = {label for _, _, label in unknown}
+    special = {
+        "kind: unknown, label 7": 7 in labels,
+        "kind: unknown, label L - 1": house.labels - 1 in labels,
+        "known beside unknown: one pair, two labels": {one[:2] for one in known} & {one[:2] for one in unknown},
+        "known beside unknown: one owner and label, two targets": {one[::2] for one in known} & {one[::2] for one in unknown},
+        "known beside unknown: one target and label, two owners": {one[1:] for one in known} & {one[1:] for one in unknown},
+        "known beside unknown: one label there and back": {(v, u, label) for u, v, label in known} & unknown,
+    }
+    return [name for name, is_there in special.items() if is_there]
+
+
+def kind_names(kind, labels):
+    """What a kind byte is that is none."""
+    special = {"L": labels, "80 + L": brute.UNKNOWN + labels, "7F": 0x7F, "88": 0x88, "FE": 0xFE}
+    return ["kind: %s refused 7" % name for name, byte in special.items() if kind == byte]
 
 
 def chain_occurrences(data, reply):
@@ -204,9 +232,11 @@ def chain_occurrences(data, reply):
     fault = brute.first_fault(data)
     found = ["both hold: %d and %d" % (reply, other) for other in fault.numbers[1:]]
     owner = None if reply == 3 else brute.owner_of(data, fault.record)
+    if reply == 7:
+        found += kind_names(brute.record_of(data, fault.record)[1], data[2])
     if reply == 15:
         found += owner_names(owner, data[1])
-    elif reply in (6, 7, 8) and owner is not None:
+    elif reply in (6, 7, 8, 16) and owner is not None:
         found.append("owner: right at a record refused %d" % reply)
     elif reply == 5 and owner is not None and owner >= data[1]:
         found.append("owner: n or more at a record never reached")

@@ -3,8 +3,9 @@
     python3 tests/run_compare.py PATH_OF_CASES_BINARY
 
 A list is the one that mining makes of the file, or other rules; such a list in
-another order, with something repeated, dropped or added; another file's list; one
-made at random; or its bytes are broken. Lists that are the same but for order and
+another order, with something repeated, dropped or added; another file's list; the
+list of a file in which a relation was absent that is unknown here; one made at
+random; or its bytes are broken. Lists that are the same but for order and
 repetition must have the same reply. Each reply must follow from permit's replies
 at all pairs: in the reckoning for every list, and in what the program prints for
 some of them. The seeds are fixed, so each run has the same frames. The last line
@@ -25,8 +26,9 @@ import large
 import run_paths
 import run_permit
 import script
+import unknowns
 
-GRAPHS = 850
+GRAPHS = 880
 WIDE_GRAPHS = 40
 BYTEWISE_FILES = 200
 DAMAGED_FILES = 1000
@@ -34,6 +36,7 @@ LONG_FILES = 12
 NUMBERS_OF_PARTIES = (2, 3, 6, 8, 9, 16, 17, 31, 32)
 LISTS_KEPT = 200          # of earlier files, to be given with a later one
 MOST_PARTIES = 6          # of a small file
+MADE_UNKNOWN_PART = 0.4   # of the mined lists, which are given with the file in which one more relation is unknown
 WIDE_HELD_PART = 1 / 10   # of the lists for other files, for which the program's permit is asked at every pair
 
 MINED, OTHER = "the mined list", "other rules"
@@ -194,7 +197,7 @@ class Collection(run_permit.Collection):
         is_held = self.rng.random() < WIDE_HELD_PART
         if lines and (is_held or not is_wide(made.known)):
             self.hold(made, listed, lines, name_of(reply))
-        self.files.add(made.data)
+        unknowns.count(self.account, self.files, made.data, made.known.refusal)
         self.lists.add(listed)
         self.account["%s: %s" % (sort, name_of(reply))] += 1
         self.account.update("compare: " + what for what in occurrences(made.known, listed, reply))
@@ -279,6 +282,17 @@ def add_file(collection, made):
         collection.add(made, "another file's list", rng.choice(collection.earlier))
     if own:
         collection.keep(brute.encode_list(own))
+        if rng.random() < MADE_UNKNOWN_PART:
+            add_made_unknown(collection, made, own)
+
+
+def add_made_unknown(collection, made, terms):
+    """A mined list with the file in which one absent relation is unknown. A pair may lose words by that, and gets none."""
+    other = converting.with_one_unknown(collection.rng, made)
+    if other is not None:
+        reply = collection.add(other, MINED + " before one was unknown", brute.encode_list(terms))
+        if name_of(reply) == "list":
+            raise AssertionError("a list permits a pair by an unknown relation")
 
 
 def add_one_party(collection, made):
@@ -310,9 +324,10 @@ def add_places(collection):
 
 
 def add_place(collection, n, differing):
-    """Two files: these pairs are permitted, with the empty list; all others are, with a list that permits all pairs."""
+    """Two files: these pairs are permitted, with the empty list; all others are, with a list that permits all pairs. No relation of
+    label 0 is unknown, so that each pair has its plain or its absent symbol."""
     rng = collection.rng
-    graph = run_paths.matter_with(rng, n, rng.randint(1, 2), rng.choice([1, 3]), 1, 0.5)
+    graph = run_paths.matter_with(rng, n, rng.randint(1, 2), rng.choice([1, 3]), 1, 0.5, known_label=0)
     for permits, terms, side in ((differing, [], "file"), ({*large.all_pairs(n)} - differing, [[(0,)], [(1,)]], "list")):
         made = converting.Made("by place", *run_permit.known_file(rng, graph._replace(permits=permits)))
         if collection.add(made, "a chosen pair of many", brute.encode_list(terms)) != ("differs", *min(differing), side):
@@ -463,6 +478,7 @@ DEMANDS = {
     "the mined list, a term added: list": 200, "the mined list, a term added: same": 500,
     "the mined list, a word added: file": 400, "the mined list, a word added: same": 200,
     "the mined list, byte by byte: refused 9": 3000,
+    "the mined list before one was unknown: same": 200, "the mined list before one was unknown: file": 80,
     "other rules: same": 300, "other rules: file": 300, "other rules: list": 300,
     "another file's list: same": 20, "another file's list: file": 200, "another file's list: list": 150,
     "another file's list: refused 9": 800,

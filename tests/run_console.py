@@ -6,10 +6,11 @@ Every file has its verdict asked, is mined with scratch and output of sizes at
 and beside the limits, and its mined list is given to permit for every pair.
 Where the verdict names a rival, the program `cases` shows a path of the pair
 and one of the rival for each of the pair's words. Some files are then asked
-about once more as their copies and in the other edition. Then come the larger
-files of large_console.py. The seeds are fixed. The last line printed is `N passed,
-M failed`: N counts calls; M counts calls and, beside them, demands on the set
-of files that are not met. The exit status is 0 only where M is 0.
+about once more as their copies and in the other edition, and some with an absent
+relation made unknown. Then come the larger files of large_console.py. The seeds
+are fixed. The last line printed is `N passed, M failed`: N counts calls; M counts
+calls and, beside them, demands on the set of files that are not met. The exit
+status is 0 only where M is 0.
 """
 
 import os
@@ -32,13 +33,15 @@ import run_paths
 import run_permit
 import script
 import stored
+import unknowns
 
 GRAPHS = 7000
 WIDE_GRAPHS = 60
-DAMAGED_FILES = 5000
+DAMAGED_FILES = 6500
 MOST_RIVAL_WORDS = 40
 ALL_SIZES_PART = 0.1        # of the convertible files
 AGAIN_EVERY = 20            # of the files, one
+MADE_UNKNOWN_EVERY = 8      # of the files, one, and one more in which an absent relation is unknown
 SCRATCH = brute.SCRATCH_LENGTH
 SECONDS_OF_RUN = 1500     # a call that does not end ends the run without its last line
 
@@ -70,7 +73,7 @@ class Run:
         expected = brute.verdict_reply(made.known)
         self.hold("verdict", made, "", expected, self.functions.verdict(made.data))
         self.count("verdict", console_demands.verdict_occurrences(made, expected))
-        self.files.add(made.data)
+        unknowns.count(self.account, self.files, made.data, made.known.refusal)
 
     def mining(self, made, scratch_length, output_length):
         """Mining with lent buffers of these lengths and random old bytes."""
@@ -198,8 +201,11 @@ def path_case(run, made, pair, word):
 # ------------------------------------------------------------------------ the run
 
 # The numbers that docs/EXPORTS.md has: 01's cases A, B and C, A in edition 2 and refused files for the verdict; for mining and permit, A.
+# Then those of 02's Ticket 5, by hand: with (0,1) unknown, permit (1,0) has the word 01, and without it (0,1) has that word too.
 PACKED = [("A", 0x780), ("B", 0x0201010082), ("C", 0x0281), ("A with record 2's next 01 00", 4),
-          ("A in edition 2", 0x780), ("A in edition 2 with record 1's owner 01", 15)]
+          ("A in edition 2", 0x780), ("A in edition 2 with record 1's owner 01", 15),
+          ("(0,1) unknown, permit (1,0)", 0x680), ("(0,1) unknown, permit (0,1)", 0x010081),
+          ("nothing unknown, permit (1,0)", 0x0100000182), ("A with record 2 01 80 00 00", 16)]
 PACKED_MINING = 0x780
 PACKED_PERMIT = [((0, 1), 0x80), ((0, 2), 0x81)]
 
@@ -228,6 +234,8 @@ def ask_all(run):
         ask(run, made)
         if number % AGAIN_EVERY == 0 and not made.known.refusal:
             asked.append(made)
+        if number % MADE_UNKNOWN_EVERY == 0 and not made.known.refusal:
+            ask_made_unknown(run, made)
     for made in asked:
         ask_others(run, made)
 
@@ -248,6 +256,17 @@ def ask_again(run, made, kind, data):
     if said(known) != said(made.known):
         run.tally.fault("%s of a file has another verdict or list" % kind)
     ask(run, converting.Made(kind, data, known))
+
+
+def ask_made_unknown(run, made):
+    """All calls on the file with one absent relation made unknown. No symbol holds that did not before."""
+    other = converting.with_one_unknown(run.rng, made)
+    if other is None:
+        return
+    if any(not set(symbols) <= set(made.known.graph[pair]) for pair, symbols in other.known.graph.items()):
+        run.tally.fault("a symbol holds of an unknown relation")
+    ask(run, other)
+    run.count("made unknown", console_demands.made_unknown_occurrences(made.known, other.known))
 
 
 def said(known):

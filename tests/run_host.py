@@ -29,13 +29,17 @@ WARNINGS = ["-Wall", "-Wextra", "-Wpedantic", "-Werror"]
 HEADER_ALONE = """#include "hempmallet.h"
 #include "hempmallet.h"
 
+/* label 0 of the pair 0 1 once known and once unknown */
+static const uint8_t known_and_unknown[] = {1, 2, 2, 0, 1, 0, 2, 0, 1, 0, 0, 0, 1, 0x00, 2, 0, 1, 0x80, 0, 0};
+
 int main(void)
 {
     uint64_t reply = hempmallet_verdict((const uint8_t *)"", 0);
     uint8_t byte = 0;
     if (!hempmallet_refused(reply) || hempmallet_kind(reply) != HEMPMALLET_REFUSED_LENGTH || hempmallet_length(reply) != 0
         || hempmallet_mining(&byte, 0, &byte, 0, &byte, 0) != HEMPMALLET_REFUSED_LENGTH
-        || hempmallet_permit(&byte, 0, &byte, 0, 0, 1) != HEMPMALLET_REFUSED_LENGTH) {
+        || hempmallet_permit(&byte, 0, &byte, 0, 0, 1) != HEMPMALLET_REFUSED_LENGTH
+        || hempmallet_verdict(known_and_unknown, sizeof known_and_unknown) != HEMPMALLET_REFUSED_KNOWN_AND_UNKNOWN) {
         return 1;
     }
     reply = UINT64_C(0x0403020182);
@@ -52,6 +56,10 @@ WRITTEN = {
     "c.house": ("not convertible: pair 2 0 has no word\n", 0),
     "refused.house": ("refused 4\n", 1),
     "owner.house": ("refused 15\n", 1),
+    "known-and-unknown.house": ("refused 16\n", 1),
+    "unknown.house": ("convertible, a list of 6 bytes\nlist 01 00 01 00 01 01\npermits 1 0\n", 0),
+    "unknown-permitted.house": ("not convertible: pair 0 1 has no word\n", 0),
+    "nothing-unknown.house": ("not convertible: pair 1 0 has the rival 0 1\n", 0),
     "longest.house": ("convertible, a list of 6 bytes\nlist 01 00 01 00 01 00\n" + "".join(
         "permits %d %d\n" % (u, v) for u in range(32) for v in range(32) if u != v), 0),
     "longer.house": ("refused 1\n", 1),
@@ -100,6 +108,9 @@ def write_files(folder):
     longest = files.full_draft(random.Random(1), 0, 31, 2).bytes()
     written = {"refused.house": stored.case_file("A with record 2's next 01 00"), "empty.house": b"",
                "owner.house": stored.case_file("A in edition 2 with record 1's owner 01"),
+               "known-and-unknown.house": stored.case_file("label 0 known, then unknown"),
+               "unknown-permitted.house": stored.case_file("(0,1) unknown, permit (0,1)"),
+               "nothing-unknown.house": stored.case_file("nothing unknown, permit (1,0)"),
                "longest.house": longest, "longer.house": longest + b"\0",
                "long.house": stored.case_file("A") + bytes(50000)}
     for name, made in make_examples.examples().items():

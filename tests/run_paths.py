@@ -19,10 +19,11 @@ import comparing
 import files
 import large
 import script
+import unknowns
 
 SMALL_FILES = 9000
 SPARSE_FILES = 600
-DAMAGED_FILES = 3400
+DAMAGED_FILES = 3700
 WALKED_FILES = 1500
 MOST_PATHS = 1200         # about how many paths a pair of a small file may have
 MOST_WORDS_WALKED = 200   # over all pairs of a file whose pairs are walked
@@ -69,17 +70,19 @@ def small_matter(rng, most_paths):
     return few_paths(rng, most_paths, draw)
 
 
-def matter_with(rng, n, labels, language, longest, part):
-    """Matter that has this part of the relations that can be, and some permits."""
-    every = large.all_pairs(n)
-    edges = {(u, v, label) for u, v in every for label in range(labels) if rng.random() < part}
-    permits = {pair for pair in every if rng.random() < 0.2}
-    return files.Matter(n, labels, language, longest, edges, permits)
+def matter_with(rng, n, labels, language, longest, part, known_label=None):
+    """Matter that has this part of the relations that can be, and some permits. In a part of the matters some relations become
+    unknown, known and absent ones; none of them has the known label."""
+    every = files.every_relation(n, labels)
+    edges = {one for one in every if rng.random() < part}
+    permits = {pair for pair in large.all_pairs(n) if rng.random() < 0.2}
+    matter = files.Matter(n, labels, language, longest, edges, permits)
+    return files.some_unknown(rng, matter, [one for one in every if one[2] != known_label])
 
 
 def sparse_matter(rng):
     """n 7 or 8 in language 0 or 2: a line through all parties in any order, and some relations
-    more. Returns the matter, and a pair that is far apart on the line."""
+    more; some absent ones may be unknown. Returns the matter, and a pair that is far apart on the line."""
     n, labels = rng.randint(7, 8), rng.randint(1, 2)
     order = rng.sample(range(n), n)
     steps = list(zip(order, order[1:])) + rng.choices(large.all_pairs(n), k=rng.randint(0, n))
@@ -87,18 +90,23 @@ def sparse_matter(rng):
     permits = set(rng.sample(large.all_pairs(n), 3))
     longest = rng.choice([rng.randint(1, 8), 7, 8])
     pair = (order[0], order[rng.choice([n - 1, n - 1, n - 2])])
-    return files.Matter(n, labels, rng.choice([0, 2]), longest, edges, permits), pair
+    matter = files.Matter(n, labels, rng.choice([0, 2]), longest, edges, permits)
+    return files.some_unknown(rng, matter, files.absent_relations(matter)), pair
 
 
 def file_of(rng, matter):
     return files.lay_out(matter, rng).bytes()
 
 
+# Of a known and an unknown record either can be the first, so that there are more of these.
+DAMAGES = files.DAMAGES + 5 * [files.repeat_as_opposite]
+
+
 def damaged_file(rng):
     """A file that is most often refused: damaged in its parts, in its bytes or in its length."""
     part = rng.random()
     if part < 0.8:
-        return files.damaged_draft(rng, rng.choice(files.DAMAGES), n=rng.randint(3, 6), most=20).bytes()
+        return files.damaged_draft(rng, rng.choice(DAMAGES), n=rng.randint(3, 6), most=20).bytes()
     data = file_of(rng, small_matter(rng, MOST_PATHS))
     return rng.choice([files.byte_changed, files.cut, files.lengthened])(data, rng)
 
@@ -278,7 +286,7 @@ class Collection:
         reply, after = script.word_reply(asked.call, known, asked.first, asked.second, given, output)
         frame = script.word_frame(asked.call, data, asked.first, asked.second, given, output)
         self.cases.append(script.Case(frame, script.output_text(asked.call, reply, after)))
-        self.files.add(data)
+        unknowns.count(self.account, self.files, data, known.refusal)
         self.account.update(occurrences(known, asked, reply, script.word_of(given)))
         return reply
 
@@ -366,7 +374,11 @@ def occurrences(known, asked, reply, word):
 
 def large_occurrences(cases):
     """The names of what occurs in the frames of the larger files."""
-    return ["larger files: frames of edition %d" % script.parts_of(case.frame).data[0] for case in cases]
+    for case in cases:
+        data = script.parts_of(case.frame).data
+        yield "larger files: frames of edition %d" % data[0]
+        if unknowns.has_unknown(data):
+            yield "larger files: frames with unknown relations in language %d" % data[3]
 
 
 def faults(known, asked, word):
@@ -486,6 +498,7 @@ DEMANDS.update({"path: 6 parties": 500, "path: 7 parties": 20, "path: 8 parties"
 DEMANDS.update({"files walked in language %d" % language: 200 for language in range(4)})
 DEMANDS.update({"files walked in edition %d" % edition: 500 for edition in files.EDITIONS})
 DEMANDS.update({"larger files: frames of edition %d" % edition: 1000 for edition in files.EDITIONS})
+DEMANDS.update({"larger files: frames with unknown relations in language %d" % language: 200 for language in range(4)})
 for call in ("path", "next-word"):
     DEMANDS.update({"%s: refused %d" % (call, number): 100 for number in brute.FILE_REFUSALS})
     DEMANDS.update({"%s: %s in edition %d" % (call, kind, edition): 5000
@@ -502,6 +515,7 @@ for call in ("path", "next-word"):
 
 FEWEST_FILES = 10000
 FEWEST_LARGE = 5000
+FEWEST_16, FEWEST_8 = 200, 60   # files, with 16 in each order and with 8 for two unknown relations
 
 
 def lacking(collection, large_cases):
@@ -511,7 +525,7 @@ def lacking(collection, large_cases):
         lines.append("only %d different files" % len(collection.files))
     if len(large_cases) < FEWEST_LARGE:
         lines.append("only %d frames of larger files" % len(large_cases))
-    return lines + unmet(collection.account, DEMANDS)
+    return lines + unmet(collection.account, DEMANDS) + unknowns.lacking(collection.account, FEWEST_16, FEWEST_8)
 
 
 def unmet(account, demands):

@@ -18,6 +18,7 @@ import comparing
 import files
 import run_paths
 import script
+import unknowns
 
 SMALL_FILES = 3200
 BYTEWISE_FILES = 300
@@ -272,7 +273,7 @@ class Collection:
             frame = script.list_frame(script.TEXT, data, listed)
             self.cases.append(script.Case(frame, script.list_text(reply)))
             self.account.update("text: " + what for what in text_occurrences(known, listed, reply))
-        self.files.add(data)
+        unknowns.count(self.account, self.files, data, known.refusal)
         self.lists.add(listed)
 
 
@@ -486,6 +487,7 @@ DEMANDS.update({"permit: %s at D %d" % (answer, longest): 100
 
 FEWEST_FILES = 3000
 FEWEST_LISTS = 20000
+FEWEST_16, FEWEST_8 = 50, 25     # files, with 16 in each order and with 8 for two unknown relations
 
 
 def lacking(collection, demands=DEMANDS, fewest_files=FEWEST_FILES, fewest_lists=FEWEST_LISTS):
@@ -495,7 +497,7 @@ def lacking(collection, demands=DEMANDS, fewest_files=FEWEST_FILES, fewest_lists
         lines.append("only %d different files" % len(collection.files))
     if len(collection.lists) < fewest_lists:
         lines.append("only %d different lists" % len(collection.lists))
-    return lines + run_paths.unmet(collection.account, demands)
+    return lines + run_paths.unmet(collection.account, demands) + unknowns.lacking(collection.account, FEWEST_16, FEWEST_8)
 
 
 def text_about(collection):

@@ -25,18 +25,25 @@ import make_examples
 import run_paths
 import stored
 import streams
+import unknowns
 
 GRAPHS = 450
 WIDE_GRAPHS = 15
-DAMAGED_FILES = 500
-AGAIN_EVERY = 10            # of the files, one is tried in the other edition too
+DAMAGED_FILES = 600
+AGAIN_EVERY = 10            # of the files, one is tried in the other edition too, and one with an absent relation made unknown
 SECONDS_FOR_FILE = 300
 REFUSED = "A with record 2's next 01 00"
 
-# What 01 prints itself, and what 02 says of owners.
+# What 01 prints itself, and what 02 says of owners and of unknown relations.
 WRITTEN = [("A", "convertible 7\n00.00\n"), ("B", "not-convertible 0 1 rival 1 2\n"),
            ("C", "not-convertible 2 0 no-word\n"), (REFUSED, "refused 4\n"),
-           ("A in edition 2", "convertible 7\n00.00\n"), ("A in edition 2 with record 1's owner 01", "refused 15\n")]
+           ("A in edition 2", "convertible 7\n00.00\n"), ("A in edition 2 with record 1's owner 01", "refused 15\n"),
+           ("(0,1) unknown, permit (1,0)", "convertible 6\n01\n"),
+           ("(0,1) unknown, permit (1,0), edition 2", "convertible 6\n01\n"),
+           ("(0,1) unknown, permit (0,1)", "not-convertible 0 1 no-word\n"),
+           ("nothing unknown, permit (1,0)", "not-convertible 1 0 rival 0 1\n"),
+           ("label 0 known, then unknown", "refused 16\n"), ("label 0 unknown, then known", "refused 16\n"),
+           ("label 0 unknown, then unknown", "refused 8\n"), ("L 2: kind 82", "refused 7\n")]
 
 
 # ------------------------------------------------------------------ the files
@@ -80,6 +87,10 @@ def all_files(rng):
         yield made.kind, made.data, text
         if number % AGAIN_EVERY == 0 and not made.known.refusal:
             yield "the other edition", converting.in_other_edition(rng, made), text
+            other = converting.with_one_unknown(rng, made)
+            if other is not None:
+                changed = brute.program_text(other.known) != text
+                yield "one made unknown, %s" % ("another text" if changed else "the same text"), other.data, brute.program_text(other.known)
     for row in large_console.table():
         yield "larger file", row.data, text_of_row(row)
     yield from about_the_longest(rng)
@@ -116,7 +127,8 @@ DEMANDS = {
     "files": 1500, "convertible": 500, "no-word": 100, "rival": 200,
     "rules": 300, "one pair changed": 300, "random permits": 300, "damaged": 400, "one party": 10,
     "no terms": 50, "several terms": 100, "several words in a term": 100, "several symbols in a word": 100,
-    "a list of 65,536 bytes": 1, "a list above 65,536 bytes": 1, "a text above 4,096 bytes": 3, "written out": 6, "example": 5,
+    "a list of 65,536 bytes": 1, "a list above 65,536 bytes": 1, "a text above 4,096 bytes": 3, "written out": 14, "example": 6,
+    "one made unknown, another text": 20, "one made unknown, the same text": 30,
     "larger file": 40, "the other edition": 100, "longer than legal": 20, "the empty input": 1, "a header of the other edition": 2,
     "the longest file of edition 1": 1, "the longest file of edition 2": 1,
     "input of 44,712 bytes": 2, "input of 44,713 bytes": 1, "input above 44,713 bytes": 5,
@@ -179,11 +191,11 @@ def main(arguments):
     for kind, data, text in made:
         hold(tally, binary, kind, data, text)
         account.update(occurrences(kind, data, text))
-        different.add(data)
+        unknowns.count(account, different, data, int(text.split()[1]) if text.startswith("refused") else 0)
     account["different files"] = len(different)
     hold_streams(tally, binary, made)
     print(run_paths.account_text(account, "files"))
-    for line in run_paths.unmet(account, dict(DEMANDS, **{"different files": 1500})):
+    for line in run_paths.unmet(account, dict(DEMANDS, **{"different files": 1500})) + unknowns.lacking(account, 15, 5):
         tally.fault(line)
     return tally.close()
 

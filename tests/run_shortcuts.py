@@ -32,12 +32,13 @@ import run_console
 import run_paths
 import run_permitconv
 import shortcuts
+import unknowns
 
 SECONDS_FOR_ROW = 30      # of processor time
 SECONDS_OF_RUN = 1500     # a call on a small file that does not end ends the run without its last line
 PAIRS_OF_ROW = 12         # that the permit call is asked about
 TEXT_SHOWN = 200
-DRAWN = 3200
+DRAWN = 3500
 MOST_WORDS = 8000         # before the first one lacked, so that a search without shortcuts ends
 
 # One call: its name and arguments, the reply expected and the one found.
@@ -123,7 +124,7 @@ def hold_text(tally, binary, row):
 
 # ------------------------------------------------------------------------ files at random
 
-def hold_drawn(tally, functions, rng, account):
+def hold_drawn(tally, functions, rng, account, files_seen):
     """Files of alike.py at which many words are had, with the answers of quick.py."""
     for _ in range(DRAWN):
         house = alike.drawn(rng)
@@ -139,6 +140,7 @@ def hold_drawn(tally, functions, rng, account):
         for held in calls_of(functions, rng, row):
             hold(tally, row.name, row.data, held)
         account.update(alike.occurrences(house, judged, most))
+        unknowns.count(account, files_seen, row.data, 0)
 
 
 def main(arguments):
@@ -149,7 +151,7 @@ def main(arguments):
         return tally.close()
     signal.alarm(SECONDS_OF_RUN)
     archive, binary = map(os.path.abspath, arguments[1:3])
-    account = Counter()
+    account, files_seen = Counter(), set()
     with tempfile.TemporaryDirectory() as folder:
         shared = console.built(archive, folder, tally)
         if shared is None:
@@ -160,15 +162,18 @@ def main(arguments):
             if not (row.slow and without_slow):
                 hold_in_time(tally, row.name, row.data, lambda: calls_of(functions, rng, row))
                 hold_text(tally, binary, row)
+                unknowns.count(account, files_seen, row.data, 0)
         for asked in shortcuts.permit_rows():
             if not (asked.slow and without_slow):
                 hold_in_time(tally, asked.name, asked.data, lambda: [
                     Held("permit", asked.pair, asked.reply, functions.permit(asked.data, asked.listed, *asked.pair))])
-        hold_drawn(tally, functions, rng, account)
+        hold_drawn(tally, functions, rng, account, files_seen)
     print(run_paths.account_text(account, "files"))
     for name, least in alike.DEMANDS.items():
         if account[name] < least:
             tally.fault("%s: %d, fewer than %d" % (name, account[name], least))
+    for line in unknowns.lacking_accepted(account):
+        tally.fault(line)
     return tally.close()
 
 

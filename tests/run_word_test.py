@@ -20,10 +20,11 @@ import large
 import large_word_test
 import run_paths
 import script
+import unknowns
 
 SMALL_FILES = 1600
 CHAINED_FILES = 2000
-DAMAGED_FILES = 3400
+DAMAGED_FILES = 3700
 MOST_PATHS = 300          # about how many paths a pair of a small file may have
 
 # The arguments of a test beside the file. symbols are 31.
@@ -33,8 +34,8 @@ Asked = namedtuple("Asked", "first second length symbols")
 # ------------------------------------------------------------------ the files
 
 def chained_matter(rng):
-    """n 5 to 8: a line through most of the parties in any order, and some relations more. In languages 1 and 3, where each two
-    parties are a step, n is 6 at most. Returns the matter, and the parties of the line."""
+    """n 5 to 8: a line through most of the parties in any order, and some relations more; some absent ones may be unknown. In languages
+    1 and 3, where each two parties of which all is known are a step, n is 6 at most. Returns the matter, and the parties of the line."""
     language = rng.randint(0, 3)
     n = rng.choice({0: [5, 6, 7, 8], 1: [5, 6], 2: [5, 6, 7, 8], 3: [5, 5, 5, 6]}[language])
     labels = 1 if language in (1, 3) else rng.randint(1, 2)
@@ -43,7 +44,8 @@ def chained_matter(rng):
     edges = {step + (rng.randrange(labels),) for step in steps}
     permits = set(rng.sample(large.all_pairs(n), 3))
     longest = rng.choice([5, 5, 6, 6, rng.randint(1, 8), rng.randint(n, 31), 31])
-    return files.Matter(n, labels, language, longest, edges, permits), order
+    matter = files.Matter(n, labels, language, longest, edges, permits)
+    return files.some_unknown(rng, matter, files.absent_relations(matter)), order
 
 
 # ------------------------------------------------------------------- the tests
@@ -142,7 +144,7 @@ class Collection(run_paths.Collection):
         word = script.word_of(given)
         reply = brute.word_test_reply(known, asked.first, asked.second, word)
         self.cases.append(script.Case(script.test_frame(data, asked.first, asked.second, given), script.test_text(reply)))
-        self.files.add(data)
+        unknowns.count(self.account, self.files, data, known.refusal)
         self.account.update("test: " + what for what in occurrences(known, asked, reply, word))
 
 
@@ -270,6 +272,7 @@ DEMANDS = {
     "test: faults of pair and word": 100,
     "larger files: frames of edition 1": 500, "larger files: frames of edition 2": 500,
 }
+DEMANDS.update({"larger files: frames with unknown relations in language %d" % language: 50 for language in range(4)})
 DEMANDS.update({"test: no with length %d" % k: 1000 for k in range(5)})
 DEMANDS.update({"test: no with length %d in language %d" % (k, language): 200 for k in range(5) for language in range(4)})
 DEMANDS.update({"test: word longer than n - 1, length %d" % k: 200 for k in range(5)})
@@ -285,12 +288,13 @@ DEMANDS.update({"larger files: %s" % reply: 1 for reply in ("yes 31", "no 30", "
 
 FEWEST_FILES = 5000
 FEWEST_LARGE = 2000
+FEWEST_16, FEWEST_8 = 200, 60   # files, with 16 in each order and with 8 for two unknown relations
 
 
 def large_occurrences(cases):
     """The names of what occurs in the frames of the larger files."""
+    yield from run_paths.large_occurrences(cases)
     for case in cases:
-        yield "larger files: frames of edition %d" % script.parts_of(case.frame).data[0]
         yield "larger files: " + case.text[len("test "):-1]
 
 
@@ -301,7 +305,7 @@ def lacking(collection, large_cases):
         lines.append("only %d different files" % len(collection.files))
     if len(large_cases) < FEWEST_LARGE:
         lines.append("only %d frames of larger files" % len(large_cases))
-    return lines + run_paths.unmet(collection.account, DEMANDS)
+    return lines + run_paths.unmet(collection.account, DEMANDS) + unknowns.lacking(collection.account, FEWEST_16, FEWEST_8)
 
 
 # ------------------------------------------------------------------- the run

@@ -25,18 +25,20 @@ import run_paths
 import run_permit
 import script
 import stored
+import unknowns
 
 SMALL_MATTERS = 5000
 CROWDED_MATTERS = 600
 MIDDLE_FILES = 120
-DAMAGED_FILES = 2500
+DAMAGED_FILES = 3200
 TWICE_DAMAGED_FILES = 600
 ASKED_FILES = 300
 ASKED_PATHS = 150         # about how many paths a pair may have in a file that other calls are asked about
 ORDERS = (1, 2, None)     # the editions in which a matter is laid out; None is either
-CHANGES_OF_MATTER = 2
+CHANGES_OF_MATTER = 3
 LONGEST_COPY = files.LONGEST_FILES[2]
 LONGEST_CHAIN = 279
+FEWEST_16, FEWEST_8 = 200, 80   # files, with 16 in each order and with 8 for two unknown relations
 
 
 # ------------------------------------------------------- matter with a change
@@ -62,11 +64,41 @@ def permit_changed(rng, matter):
 
 
 def relation_changed(rng, matter):
-    """A relation less or more; one party has no pair."""
+    """A known relation less or more; an unknown one stays, and one party has no pair."""
     if matter.n == 1:
         return None
     edge = (*rng.sample(range(matter.n), 2), rng.randrange(matter.labels))
-    return matter._replace(edges=one_less_or_more(rng, matter.edges, edge))
+    edges = one_less_or_more(rng, matter.edges, edge)
+    return matter._replace(edges=edges) if edges.isdisjoint(matter.unknown) else None
+
+
+def one_of(rng, relations):
+    """A set of one of these, or of none where there are none."""
+    return {rng.choice(sorted(relations))} if relations else set()
+
+
+def absent_to_unknown(rng, matter):
+    """An absent relation becomes unknown."""
+    one = one_of(rng, files.absent_relations(matter))
+    return matter._replace(unknown=matter.unknown | one) if one else None
+
+
+def known_to_unknown(rng, matter):
+    """A known relation becomes unknown."""
+    one = one_of(rng, matter.edges)
+    return matter._replace(edges=matter.edges - one, unknown=matter.unknown | one) if one else None
+
+
+def unknown_to_known(rng, matter):
+    """An unknown relation becomes known."""
+    one = one_of(rng, matter.unknown)
+    return matter._replace(edges=matter.edges | one, unknown=matter.unknown - one) if one else None
+
+
+def unknown_to_absent(rng, matter):
+    """An unknown relation becomes absent."""
+    one = one_of(rng, matter.unknown)
+    return matter._replace(unknown=matter.unknown - one) if one else None
 
 
 def longest_changed(rng, matter):
@@ -76,7 +108,7 @@ def longest_changed(rng, matter):
 
 def labels_changed(rng, matter):
     """Another L that is above every label in use, where there is one."""
-    lowest = 1 + max((label for _, _, label in matter.edges), default=0)
+    lowest = 1 + max((label for _, _, label in (*matter.edges, *matter.unknown)), default=0)
     labels = another(rng, matter.labels, lowest, 8)
     return labels and matter._replace(labels=labels)
 
@@ -88,13 +120,19 @@ def language_changed(rng, matter):
 
 def parties_changed(rng, matter):
     """Another n that is above every party in use, where there is one."""
-    lowest = 1 + max((party for entry in (*matter.edges, *matter.permits) for party in entry[:2]), default=0)
+    lowest = 1 + max((party for entry in (*matter.edges, *matter.permits, *matter.unknown) for party in entry[:2]), default=0)
     n = another(rng, matter.n, lowest, 32)
     return n and matter._replace(n=n)
 
 
 CHANGES = {"one permit": permit_changed, "one relation": relation_changed, "D": longest_changed,
-           "L": labels_changed, "language": language_changed, "n": parties_changed}
+           "L": labels_changed, "language": language_changed, "n": parties_changed,
+           "absent to unknown": absent_to_unknown, "known to unknown": known_to_unknown,
+           "unknown to known": unknown_to_known, "unknown to absent": unknown_to_absent}
+
+# How often each change must occur at least; there must be an unknown relation for some of them.
+FEWEST_CHANGES = {name: 1000 for name in CHANGES}
+FEWEST_CHANGES.update({"unknown to known": 300, "unknown to absent": 300})
 
 
 # ----------------------------------------------------------------- the frames
@@ -123,7 +161,7 @@ class Collection(run_paths.Collection):
         reply, after = self.add(data, length + more)
         self.demand(reply == ("length", length), "a copy of %d bytes has the reply %s %d" % (length, *reply))
         self.account["files: accepted and new"] += data not in self.files
-        self.files.add(data)
+        unknowns.count(self.account, self.files, data, 0)
         return after[:reply[1]]
 
     def add_short(self, data):
@@ -165,6 +203,7 @@ def add_file(collection, data):
     if brute.check(data) == 0:
         add_matter(collection, files.Matter(*brute.decode(data)))
     else:
+        unknowns.count(collection.account, collection.files, data, brute.check(data))
         collection.add(data, len(data) + rng.choice([0, 0, 1, rng.randint(2, 60)]))
         collection.add(data, rng.choice([0, max(0, len(data) - 1)]))
 
@@ -198,7 +237,7 @@ def add_longest(collection):
     """The longest file of each edition in every language, with each length of output, and with faults at its end."""
     rng = collection.rng
     for language, edition in product(range(4), files.EDITIONS):
-        data = files.full_draft(rng, language, rng.randint(1, 31), edition).bytes()
+        data = files.full_draft(rng, language, rng.randint(1, 31), edition, 0.5 if language in (1, 2) else 0).bytes()
         for more in (0, 1, script.LONGEST_COPY_OUTPUT - LONGEST_COPY):
             collection.copy_of(data, more)
         for room in (LONGEST_COPY - 1, files.LONGEST_FILES[1], 0):
@@ -264,6 +303,7 @@ def ask_all(collection, matter):
         for about in asked_about:
             add_again(collection, case, *about)
     collection.account.update(name + "files in language %d" % matter.language for name, _, _ in asked_about)
+    collection.account.update(name + "files with unknown relations" for name, _, _ in asked_about if matter.unknown)
 
 
 def add_asked(collection):
@@ -314,7 +354,8 @@ def features(matter):
     entries = brute.entries(matter)
     chains = [[entry[1:] for entry in entries if entry[0] == party] for party in range(matter.n)]
     full = [party for party in range(matter.n) if chains[party]]
-    used = {label for _, _, label in matter.edges}
+    used = {label for _, _, label in (*matter.edges, *matter.unknown)}
+    known, unknown = ({one[:2] for one in relations} for relations in (matter.edges, matter.unknown))
     special = {
         "n 1": matter.n == 1,
         "n 32": matter.n == 32,
@@ -331,10 +372,17 @@ def features(matter):
         "a label that no record uses": len(used) < matter.labels,
         "D above n - 1": matter.longest > matter.n - 1,
         "D up to n - 1": matter.longest <= matter.n - 1,
-        "permits alone": bool(matter.permits) and not matter.edges,
+        "permits alone": bool(matter.permits) and not used,
+        "unknown relations": bool(matter.unknown),
+        "unknown relations alone": bool(matter.unknown) and not matter.edges and not matter.permits,
+        "known and unknown to one target": bool(known & unknown),
+        "known, unknown and a permit to one target": bool(known & unknown & set(matter.permits)),
+        "several unknown labels to one target": len(unknown) < len(matter.unknown),
+        "label 7 unknown": any(label == 7 for _, _, label in matter.unknown),
         "256 records or more": len(entries) >= 256,
         "a chain of 279 records": max(len(chain) for chain in chains) == LONGEST_CHAIN,
         "R 8,928": len(entries) == files.LARGEST_R,
+        "R 8,928 with unknown relations": len(entries) == files.LARGEST_R and bool(matter.unknown),
     }
     return ["any"] + [name for name, is_there in special.items() if is_there]
 
@@ -368,7 +416,11 @@ DEMANDS = {
     "matter: label 7": 300, "matter: a label that no record uses": 1000,
     "matter: D above n - 1": 1000, "matter: D up to n - 1": 500, "matter: permits alone": 100,
     "matter: 256 records or more": 40, "matter: a chain of 279 records": 3, "matter: R 8,928": 4,
+    "matter: R 8,928 with unknown relations": 2, "matter: unknown relations": 1500, "matter: unknown relations alone": 30,
+    "matter: known and unknown to one target": 500, "matter: known, unknown and a permit to one target": 200,
+    "matter: several unknown labels to one target": 300, "matter: label 7 unknown": 100,
 }
+DEMANDS.update({"changed: " + name: fewest for name, fewest in FEWEST_CHANGES.items()})
 
 # The same number of times for each name of a row.
 for fewest, names in (
@@ -378,20 +430,20 @@ for fewest, names in (
         (4, ["write: the longest file of edition %d, %s" % (edition, room) for edition in files.EDITIONS for room in (
             "output of just that length", "output longer", "output one byte short", "output shorter by more", "no output")]),
         (3000, ["write: written in language %d" % language for language in range(4)]),
-        (1000, ["changed: " + name for name in CHANGES]),
         (200, [name + answer for name in (OTHER_EDITION, UNLIKE) for answer in (
             "check accepted", "decode found", "path found", "path none",
             "next-word found", "next-word none", "permit yes", "permit no", "compare found")]),
         (100, [name + answer for name in (OTHER_EDITION, UNLIKE) for answer in ("text found", "compare same")]),
         (20, [name + "%s refused %d" % refused for name in (OTHER_EDITION, UNLIKE) for refused in (
             *product(("path", "next-word"), (10, 11, 14)), ("permit", 9), ("permit", 10), ("compare", 9))]),
-        (20, [name + "files in language %d" % language for name in (OTHER_EDITION, UNLIKE) for language in range(4)])):
+        (20, [name + "files in language %d" % language for name in (OTHER_EDITION, UNLIKE) for language in range(4)]),
+        (50, [name + "files with unknown relations" for name in (OTHER_EDITION, UNLIKE)])):
     DEMANDS.update(dict.fromkeys(names, fewest))
 
 
 def lacking(collection):
     """What is wrong with the copies, and the demands that are not met, as lines of text."""
-    return collection.faults + run_paths.unmet(collection.account, DEMANDS)
+    return collection.faults + run_paths.unmet(collection.account, DEMANDS) + unknowns.lacking(collection.account, FEWEST_16, FEWEST_8)
 
 
 # ------------------------------------------------------------------- the run

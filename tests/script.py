@@ -154,11 +154,13 @@ def permits_text(house):
 
 
 def relations_text(house):
-    """One line for each pair with a relation, in pair order; bit l stands for label l."""
-    labels = {}
-    for u, v, label in house.edges:
-        labels[(u, v)] = labels.get((u, v), 0) | 1 << label
-    return "".join("relation %d %d %02X\n" % (u, v, labels[(u, v)]) for u, v in sorted(labels))
+    """For each pair in pair order a line with its relations and then one with its unknown ones, where it has any; bit l stands for
+    label l."""
+    lines = {}
+    for name, relations in (("relation", house.edges), ("unknown", house.unknown)):
+        for u, v, label in relations:
+            lines[(u, v, name)] = lines.get((u, v, name), 0) | 1 << label
+    return "".join("%s %d %d %02X\n" % (name, u, v, lines[(u, v, name)]) for u, v, name in sorted(lines))
 
 
 TEXTS = {CHECK: check_text, DECODE: decode_text}

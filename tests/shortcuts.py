@@ -198,12 +198,14 @@ def nearly_together(rng, length, labels, lacked):
 
 # ----------------------------------------------------------------- rivals by a map, and without one
 
-def turned_ring(rng, n, language, longest, slow):
+def turned_ring(rng, n, language, longest, slow, unknown=False):
     """A ring of label 0, with label 1 two steps on and five; permitted (0, 1). Its word 00 is had by the ring's steps
-    alone, and turning the ring shows that they have all its words. The first of them is (1, 2)."""
+    alone, and turning the ring shows that they have all its words. The first of them is (1, 2). Label 0 three steps on
+    and label 1 one step on may be unknown, which turning the ring carries too."""
     edges = [(u, (u + 1) % n, 0) for u in range(n)] + [(u, (u + k) % n, 1) for u in range(n) for k in (2, 5)]
-    name = "turned ring of %d in language %d, D %d" % (n, language, longest)
-    return rival(name, large.file_of(rng, n, 2, language, edges, {(0, 1)}, longest), (0, 1), (1, 2), slow)
+    name = "turned ring of %d in language %d, D %d%s" % (n, language, longest, ", unknown ones" if unknown else "")
+    nowhere = [(u, (u + k) % n, label) for u in range(n) for k, label in ((3, 0), (1, 1)) if unknown]
+    return rival(name, large.file_of(rng, n, 2, language, edges, {(0, 1)}, longest, nowhere), (0, 1), (1, 2), slow)
 
 
 def free_labels(language):
@@ -211,10 +213,11 @@ def free_labels(language):
     return (0, 2) if language in (0, 2) else (0,)
 
 
-def exchanged(rng, n, language, longest, alike, slow):
+def exchanged(rng, n, language, longest, alike, slow, unknown=False):
     """Parties 0 and some that follow it have the same relations at random to and from all others, and none with each
     other; label 1 goes from them to the last party only. Permitted is 0 to the last. Its word 04 is had by those
-    alike alone, and exchanging 0 for one of them shows that they have all its words."""
+    alike alone, and exchanging 0 for one of them shows that they have all its words. Of the relations at random some
+    may be unknown, for all alike the same ones."""
     others, labels = range(alike, n), free_labels(language)
     edges = {(u, v, label) for u in others for v in others for label in labels if u != v and rng.random() < 0.3}
     for v in others:
@@ -223,32 +226,42 @@ def exchanged(rng, n, language, longest, alike, slow):
                 edges |= {(u, v, label) for u in range(alike)}
             if rng.random() < 0.5:
                 edges |= {(v, u, label) for u in range(alike)}
-    edges |= {(u, n - 1, 1) for u in range(alike)}
-    name = "%d alike of %d in language %d, D %d" % (alike, n, language, longest)
-    data = large.file_of(rng, n, max(2, 1 + labels[-1]), language, edges, {(0, n - 1)}, longest)
+    nowhere = {(u, v, 0) for u in range(alike) for v in others if unknown and v % 3 == 0}
+    edges = edges - nowhere | {(u, n - 1, 1) for u in range(alike)}
+    name = "%d alike of %d in language %d, D %d%s" % (alike, n, language, longest, ", unknown ones" if unknown else "")
+    data = large.file_of(rng, n, max(2, 1 + labels[-1]), language, edges, {(0, n - 1)}, longest, nowhere)
     return rival(name, data, (0, n - 1), (1, n - 1), slow)
 
 
-def copied(rng, size, copies, language, longest, slow):
+def copied(rng, size, copies, language, longest, slow, unknown=False):
     """Copies of a graph at random beside each other; in each, label 1 goes from its first to its last party only.
     Permitted is that pair of the last copy. Its word 04 is had by the same pairs of the others alone, and a map that
-    turns the copies shows that they have all its words. The first of them is that of the first copy."""
+    turns the copies shows that they have all its words. The first of them is that of the first copy. What the second
+    party of a copy has with the others of it may be unknown, in each copy the same."""
     labels = free_labels(language)
     one = {(u, v, label) for u in range(size) for v in range(size) for label in labels if u != v and rng.random() < 0.5}
     one.add((0, size - 1, 1))
-    edges = {(u + size * k, v + size * k, label) for u, v, label in one for k in range(copies)}
+    nowhere = {(1, v, 0) for v in range(size) if unknown and v != 1}
+
+    def in_all(relations):
+        return {(u + size * k, v + size * k, label) for u, v, label in relations for k in range(copies)}
+
     last = size * (copies - 1)
-    name = "%d copies of %d in language %d, D %d" % (copies, size, language, longest)
-    data = large.file_of(rng, size * copies, max(2, 1 + labels[-1]), language, edges, {(last, last + size - 1)}, longest)
+    name = "%d copies of %d in language %d, D %d%s" % (copies, size, language, longest, ", unknown ones" if unknown else "")
+    data = large.file_of(rng, size * copies, max(2, 1 + labels[-1]), language, in_all(one - nowhere), {(last, last + size - 1)}, longest,
+                         in_all(nowhere))
     return rival(name, data, (last, last + size - 1), (0, size - 1), slow)
 
 
-def tournament(rng, language, longest):
+def tournament(rng, language, longest, unknown=False):
     """Seven parties; u is related to u + 1, u + 2 and u + 4 round. Permitted (0, 1). Doubling all numbers takes it to
-    (0, 2), leaves 0 where it is, and carries every relation; no pair between them in order has the relation 00."""
+    (0, 2), leaves 0 where it is, and carries every relation; no pair between them in order has the relation 00. Label 1
+    to the others, u + 3, u + 5 and u + 6, may be unknown, which doubling carries too; it is nowhere known."""
     edges = [(u, (u + k) % 7, 0) for u in range(7) for k in (1, 2, 4)]
-    name = "tournament in language %d, D %d" % (language, longest)
-    return rival(name, large.file_of(rng, 7, 1, language, edges, {(0, 1)}, longest), (0, 1), (0, 2))
+    nowhere = [(u, (u + k) % 7, 1) for u in range(7) for k in (3, 5, 6) if unknown]
+    name = "tournament in language %d, D %d%s" % (language, longest, ", unknown ones" if unknown else "")
+    data = large.file_of(rng, 7, 2 if unknown else 1, language, edges, {(0, 1)}, longest, nowhere)
+    return rival(name, data, (0, 1), (0, 2))
 
 
 def petersen(rng, language, longest):
@@ -388,14 +401,19 @@ def rows():
     for n, language, longest, slow in ((12, 0, 10, False), (9, 2, 5, False), (8, 1, 4, False), (8, 3, 3, False), (7, 3, 4, False),
                                        (32, 0, 31, True), (32, 1, 31, True), (31, 2, 31, True), (32, 3, 31, True), (16, 3, 6, True)):
         made.append(turned_ring(rng, n, language, longest, slow))
+    made += [turned_ring(rng, *given, True) for given in ((8, 1, 4, False), (7, 3, 3, False), (32, 1, 31, True), (32, 3, 31, True))]
     for n, language, longest, alike, slow in ((6, 1, 5, 2, False), (7, 2, 5, 3, False), (6, 3, 4, 2, False), (10, 0, 6, 4, False),
                                               (16, 1, 31, 2, True), (16, 3, 31, 2, True), (32, 1, 31, 3, True), (32, 3, 31, 2, True),
                                               (32, 2, 31, 5, True)):
         made.append(exchanged(rng, n, language, longest, alike, slow))
+    made += [exchanged(rng, *given, True)
+             for given in ((6, 1, 5, 2, False), (6, 3, 4, 2, False), (32, 1, 31, 3, True), (16, 3, 31, 2, True))]
     for size, copies, language, longest, slow in ((4, 2, 1, 4, False), (3, 3, 3, 3, False), (6, 2, 2, 5, False), (7, 3, 0, 6, False),
                                                   (8, 4, 1, 31, True), (10, 3, 3, 31, True), (16, 2, 3, 31, True), (12, 2, 2, 31, True)):
         made.append(copied(rng, size, copies, language, longest, slow))
+    made += [copied(rng, *given, True) for given in ((4, 2, 1, 4, False), (3, 3, 3, 3, False), (8, 4, 1, 31, True), (10, 3, 3, 31, True))]
     made += [tournament(rng, language, longest) for language in (1, 2, 3) for longest in (5, 6)]
+    made += [tournament(rng, *given, True) for given in ((1, 5), (3, 3))]
     made += [petersen(rng, language, longest) for language, longest in ((1, 6), (2, 6), (3, 4))]
     made += [folded(rng, tail) for tail in (0, 1, 2)]
     made += [two_cliques(rng, *given) for given in ((4, 1, 8), (5, 1, 5), (5, 2, 4), (4, 3, 6))]

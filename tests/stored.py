@@ -29,6 +29,9 @@ ROWS = [
     ("A with record 2's next 01 00", "c",
      "01 03 01 00 02 00 03 00  01 00 03 00 00 00  01 00 02 00  02 FF 01 00  02 00 00 00",
      "check refused 4\n"),
+    ("A with record 2 01 80 00 00", "c",
+     "01 03 01 00 02 00 03 00  01 00 03 00 00 00  01 00 02 00  01 80 00 00  02 00 00 00",
+     "check refused 16\n"),
     ("A with record 2's next 01 00", "d",
      "01 03 01 00 02 00 03 00  01 00 03 00 00 00  01 00 02 00  02 FF 01 00  02 00 00 00",
      "decode refused 4\n"),
@@ -398,6 +401,140 @@ ROWS = [
      "permits" + 31 * ZERO_MASK + " 00000001\n"
      "relation 0 31 01\n"
      "relation 31 30 80\n"),
+
+    # 02's Ticket 5: unknown relations.
+    ("(0,1) unknown, permit (1,0)", "c",
+     "01 02 01 01 01 00 02 00  01 00 02 00  01 80 00 00  00 FF 00 00",
+     "check accepted\n"),
+    ("(0,1) unknown, permit (1,0)", "d",
+     "01 02 01 01 01 00 02 00  01 00 02 00  01 80 00 00  00 FF 00 00",
+     "decode 2 1 1 1\n"
+     "permits 00000000 00000001" + 30 * ZERO_MASK + "\n"
+     "unknown 0 1 01\n"),
+    ("(0,1) unknown, permit (1,0), edition 2", "c",
+     "02 02 01 01 01 00 02 00  01 00 02 00  01 80 00 00 00  00 FF 00 00 01",
+     "check accepted\n"),
+    ("(0,1) unknown, permit (1,0), edition 2", "d",
+     "02 02 01 01 01 00 02 00  01 00 02 00  01 80 00 00 00  00 FF 00 00 01",
+     "decode 2 1 1 1\n"
+     "permits 00000000 00000001" + 30 * ZERO_MASK + "\n"
+     "unknown 0 1 01\n"),
+    ("(0,1) unknown, permit (0,1)", "c",
+     "01 02 01 01 01 00 02 00  01 00 00 00  01 80 02 00  01 FF 00 00",
+     "check accepted\n"),
+    ("(0,1) unknown, permit (0,1)", "d",
+     "01 02 01 01 01 00 02 00  01 00 00 00  01 80 02 00  01 FF 00 00",
+     "decode 2 1 1 1\n"
+     "permits 00000002" + 31 * ZERO_MASK + "\n"
+     "unknown 0 1 01\n"),
+    ("nothing unknown, permit (1,0)", "c",
+     "01 02 01 01 01 00 01 00  00 00 01 00  00 FF 00 00",
+     "check accepted\n"),
+    ("(0,1) unknown, language 3", "c",
+     "01 02 01 03 01 00 01 00  01 00 00 00  01 80 00 00",
+     "check accepted\n"),
+    ("known, unknown and permit to one target, unknown alone to another, known alone the other way round", "c",
+     "01 03 08 03 02 00 07 00  01 00 00 00 07 00"
+     "  01 87 02 00  01 00 03 00  02 80 04 00  01 FF 05 00  01 81 06 00  01 02 00 00  00 03 00 00",
+     "check accepted\n"),
+    ("known, unknown and permit to one target, unknown alone to another, known alone the other way round", "d",
+     "01 03 08 03 02 00 07 00  01 00 00 00 07 00"
+     "  01 87 02 00  01 00 03 00  02 80 04 00  01 FF 05 00  01 81 06 00  01 02 00 00  00 03 00 00",
+     "decode 3 8 3 2\n"
+     "permits 00000002" + 31 * ZERO_MASK + "\n"
+     "relation 0 1 05\n"
+     "unknown 0 1 82\n"
+     "unknown 0 2 01\n"
+     "relation 2 0 08\n"),
+    ("n 32 and L 8: (31,30) with label 7 unknown and label 6 known, (0,31) with label 0 unknown, edition 2", "d",
+     "02 20 08 03 1F 00 03 00"
+     "  03 00 00 00 00 00 00 00 00 00 00 00 00 00 00 00 00 00 00 00 00 00 00 00 00 00 00 00 00 00 00 00"
+     "  00 00 00 00 00 00 00 00 00 00 00 00 00 00 00 00 00 00 00 00 00 00 00 00 00 00 00 00 00 00 01 00"
+     "  1E 87 02 00 1F  1E 06 00 00 1F  1F 80 00 00 00",
+     "decode 32 8 3 31\n"
+     "permits" + 32 * ZERO_MASK + "\n"
+     "unknown 0 31 01\n"
+     "relation 31 30 40\n"
+     "unknown 31 30 80\n"),
+
+    # 7: a kind byte of 80 and a label must have a label below L.
+    ("L 2: kind 81", "c", "01 02 02 00 01 00 01 00  01 00 00 00  01 81 00 00", "check accepted\n"),
+    ("L 2: kind 82", "c", "01 02 02 00 01 00 01 00  01 00 00 00  01 82 00 00", "check refused 7\n"),
+    ("L 2: kind 82", "d", "01 02 02 00 01 00 01 00  01 00 00 00  01 82 00 00", "decode refused 7\n"),
+    ("L 2: kind 82, edition 2", "c", "02 02 02 00 01 00 01 00  01 00 00 00  01 82 00 00 00", "check refused 7\n"),
+    ("L 8: kind 87", "c", "01 02 08 00 01 00 01 00  01 00 00 00  01 87 00 00", "check accepted\n"),
+    ("L 8: kind 88", "c", "01 02 08 00 01 00 01 00  01 00 00 00  01 88 00 00", "check refused 7\n"),
+    ("L 8: kind 08", "c", "01 02 08 00 01 00 01 00  01 00 00 00  01 08 00 00", "check refused 7\n"),
+    ("L 8: kind 7F", "c", "01 02 08 00 01 00 01 00  01 00 00 00  01 7F 00 00", "check refused 7\n"),
+    ("L 8: kind FE", "c", "01 02 08 00 01 00 01 00  01 00 00 00  01 FE 00 00", "check refused 7\n"),
+    ("kind FF, then 7F to the same target", "c",
+     "01 02 02 00 01 00 02 00  01 00 00 00  01 FF 02 00  01 7F 00 00",
+     "check refused 7\n"),
+
+    # 8 and 16: two records of one chain with the same target and label.
+    ("label 0 known, then unknown", "c",
+     "01 02 02 00 01 00 02 00  01 00 00 00  01 00 02 00  01 80 00 00",
+     "check refused 16\n"),
+    ("label 0 known, then unknown", "d",
+     "01 02 02 00 01 00 02 00  01 00 00 00  01 00 02 00  01 80 00 00",
+     "decode refused 16\n"),
+    ("label 0 unknown, then known", "c",
+     "01 02 02 00 01 00 02 00  01 00 00 00  01 80 02 00  01 00 00 00",
+     "check refused 16\n"),
+    ("label 0 unknown, then unknown", "c",
+     "01 02 02 00 01 00 02 00  01 00 00 00  01 80 02 00  01 80 00 00",
+     "check refused 8\n"),
+    ("label 0 known, label 1 unknown", "c",
+     "01 02 02 00 01 00 02 00  01 00 00 00  01 00 02 00  01 81 00 00",
+     "check accepted\n"),
+    ("label 0 known, label 1 unknown", "d",
+     "01 02 02 00 01 00 02 00  01 00 00 00  01 00 02 00  01 81 00 00",
+     "decode 2 2 0 1\n"
+     "permits" + 32 * ZERO_MASK + "\n"
+     "relation 0 1 01\n"
+     "unknown 0 1 02\n"),
+    ("label 0 known, a permit, then unknown", "c",
+     "01 02 02 00 01 00 03 00  01 00 00 00  01 00 02 00  01 FF 03 00  01 80 00 00",
+     "check refused 16\n"),
+    ("label 7 known, then unknown, of L 8", "c",
+     "01 02 08 00 01 00 02 00  01 00 00 00  01 07 02 00  01 87 00 00",
+     "check refused 16\n"),
+    ("label 0 known, then unknown, edition 2", "c",
+     "02 02 02 00 01 00 02 00  01 00 00 00  01 00 02 00 00  01 80 00 00 00",
+     "check refused 16\n"),
+    ("label 0 unknown, then known, edition 2", "c",
+     "02 02 02 00 01 00 02 00  01 00 00 00  01 80 02 00 00  01 00 00 00 00",
+     "check refused 16\n"),
+    ("label 0 unknown, then unknown, edition 2", "c",
+     "02 02 02 00 01 00 02 00  01 00 00 00  01 80 02 00 00  01 80 00 00 00",
+     "check refused 8\n"),
+    ("label 0 known, then unknown with owner 01, edition 2: 15 is before 16", "c",
+     "02 02 02 00 01 00 02 00  01 00 00 00  01 00 02 00 00  01 80 00 00 01",
+     "check refused 15\n"),
+    ("label 0 known, then unknown with next 03 00: the record before its next", "c",
+     "01 02 02 00 01 00 02 00  01 00 00 00  01 00 02 00  01 80 03 00",
+     "check refused 16\n"),
+    ("label 0 known, then unknown, and a record never reached: 16 is before 5", "c",
+     "01 02 02 00 01 00 03 00  01 00 00 00  01 00 02 00  01 80 00 00  01 01 00 00",
+     "check refused 16\n"),
+    ("(1,2) unknown, and then (0,2)'s record, which is known: 4 is before 16", "c",
+     "01 03 01 00 02 00 02 00  01 00 02 00 00 00  02 00 00 00  02 80 01 00",
+     "check refused 4\n"),
+    ("label 0 known to one target and unknown to another", "c",
+     "01 03 01 00 02 00 02 00  01 00 00 00 00 00  01 00 02 00  02 80 00 00",
+     "check accepted\n"),
+    ("label 0 to one target, known in one chain and unknown in another", "d",
+     "01 03 01 00 02 00 02 00  01 00 02 00 00 00  02 00 00 00  02 80 00 00",
+     "decode 3 1 0 2\n"
+     "permits" + 32 * ZERO_MASK + "\n"
+     "relation 0 2 01\n"
+     "unknown 1 2 01\n"),
+    ("(0,1) known and (1,0) unknown", "d",
+     "01 02 01 00 01 00 02 00  01 00 02 00  01 00 00 00  00 80 00 00",
+     "decode 2 1 0 1\n"
+     "permits" + 32 * ZERO_MASK + "\n"
+     "relation 0 1 01\n"
+     "unknown 1 0 01\n"),
 ]
 
 
@@ -409,6 +546,18 @@ A_HEAD_1_ZERO = "01 03 01 00 02 00 03 00  01 00 00 00 00 00  01 00 02 00  02 FF 
 B = "01 03 01 00 02 00 03 00  01 00 03 00 00 00  01 00 02 00  01 FF 00 00  02 00 00 00"
 C = "01 03 01 00 02 00 03 00  01 00 02 00 03 00  01 00 00 00  02 00 00 00  00 FF 00 00"
 ONE_PARTY = "01 01 01 00 01 00 00 00  00 00"
+
+# Two parties and D 1, (0,1) unknown: in language 1 with permit (1,0), and in language 3 with no permits; both also in edition 2. Then
+# language 1 with permit (1,0) and nothing unknown; and L 2 with label 0 of (0,1) known and unknown.
+UNKNOWN_1 = "01 02 01 01 01 00 02 00  01 00 02 00  01 80 00 00  00 FF 00 00"
+UNKNOWN_1_EDITION_2 = "02 02 01 01 01 00 02 00  01 00 02 00  01 80 00 00 00  00 FF 00 00 01"
+UNKNOWN_3 = "01 02 01 03 01 00 01 00  01 00 00 00  01 80 00 00"
+UNKNOWN_3_EDITION_2 = "02 02 01 03 01 00 01 00  01 00 00 00  01 80 00 00 00"
+NOTHING_UNKNOWN = "01 02 01 01 01 00 01 00  00 00 01 00  00 FF 00 00"
+KNOWN_AND_UNKNOWN = "01 02 02 00 01 00 02 00  01 00 00 00  01 00 02 00  01 80 00 00"
+
+# Three parties, D 2 and language 3: (0,1) known, (1,2) unknown. From 1 to 2 there is 03 alone, from 2 to 1 there is 01 alone.
+KNOWN_THEN_UNKNOWN = "01 03 01 03 02 00 02 00  01 00 02 00 00 00  01 00 00 00  02 80 00 00"
 
 # Each row: the call, the file, the pair, the given word, the output's length, the
 # expected answer, the bytes that the output then begins with. The rest is kept.
@@ -449,6 +598,30 @@ WORD_ROWS = [
     ("n", A_ALL_KINDS, (0, 2), "00 01", 31, "2", "00 03"),
     ("n", A_ALL_KINDS, (0, 2), "03 00", 31, "2", "03 03"),
     ("n", A_ALL_KINDS, (0, 2), "03 03", 31, "none", ""),
+    ("n", UNKNOWN_1, (0, 1), "", 31, "none", ""),
+    ("n", UNKNOWN_1, (1, 0), "", 31, "1", "01"),
+    ("n", UNKNOWN_1, (1, 0), "01", 31, "none", ""),
+    ("n", UNKNOWN_1_EDITION_2, (0, 1), "", 31, "none", ""),
+    ("n", NOTHING_UNKNOWN, (0, 1), "", 31, "1", "01"),
+    ("n", UNKNOWN_3, (0, 1), "", 31, "1", "03"),
+    ("n", UNKNOWN_3, (0, 1), "03", 31, "none", ""),
+    ("n", UNKNOWN_3, (1, 0), "", 31, "1", "01"),
+    ("n", UNKNOWN_3, (1, 0), "01", 31, "none", ""),
+    ("n", KNOWN_THEN_UNKNOWN, (0, 2), "", 31, "1", "01"),
+    ("n", KNOWN_THEN_UNKNOWN, (0, 2), "01", 31, "1", "03"),
+    ("n", KNOWN_THEN_UNKNOWN, (0, 2), "03", 31, "2", "00 03"),
+    ("n", KNOWN_THEN_UNKNOWN, (0, 2), "00 03", 31, "2", "03 03"),
+    ("n", KNOWN_THEN_UNKNOWN, (0, 2), "03 03", 31, "none", ""),
+    ("n", KNOWN_THEN_UNKNOWN, (2, 1), "01", 31, "2", "01 00"),
+    ("n", KNOWN_AND_UNKNOWN, (0, 1), "", 31, "refused 16", ""),
+    ("p", UNKNOWN_3, (0, 1), "03", 2, "2", "00 01"),
+    ("p", UNKNOWN_3, (0, 1), "01", 2, "none", ""),
+    ("p", UNKNOWN_3, (1, 0), "01", 2, "2", "01 00"),
+    ("p", UNKNOWN_3, (1, 0), "03", 2, "none", ""),
+    ("p", KNOWN_THEN_UNKNOWN, (0, 2), "00 03", 3, "3", "00 01 02"),
+    ("p", KNOWN_THEN_UNKNOWN, (0, 2), "00 00", 3, "none", ""),
+    ("p", KNOWN_THEN_UNKNOWN, (0, 2), "00 01", 3, "none", ""),
+    ("p", KNOWN_AND_UNKNOWN, (0, 1), "00", 2, "refused 16", ""),
 ]
 
 # Parties 0 to 3 and D 5, with the relations (1,2) and (2,3) of label 0; the same in edition 2; the same without head 1.
@@ -489,6 +662,19 @@ TEST_ROWS = [
     (A_ALL_KINDS, (1, 0), "00 01", "yes 2"),
     (A_ALL_KINDS, (1, 0), "01 01", "no 1"),       # 01 holds from 2 to 0, and from 2 to 1, not from 1 to 2
     (A_ALL_KINDS, (1, 0), "01", "yes 1"),
+    (UNKNOWN_3, (0, 1), "00", "no 0"), (UNKNOWN_3, (0, 1), "01", "no 0"),
+    (UNKNOWN_3, (0, 1), "02", "no 0"), (UNKNOWN_3, (0, 1), "03", "yes 1"),
+    (UNKNOWN_3, (1, 0), "00", "no 0"), (UNKNOWN_3, (1, 0), "01", "yes 1"),
+    (UNKNOWN_3, (1, 0), "02", "no 0"), (UNKNOWN_3, (1, 0), "03", "no 0"),
+    (UNKNOWN_3_EDITION_2, (0, 1), "01", "no 0"), (UNKNOWN_3_EDITION_2, (0, 1), "03", "yes 1"),
+    (UNKNOWN_3_EDITION_2, (1, 0), "01", "yes 1"), (UNKNOWN_3_EDITION_2, (1, 0), "03", "no 0"),
+    (UNKNOWN_1, (0, 1), "00", "no 0"), (UNKNOWN_1, (0, 1), "01", "no 0"), (UNKNOWN_1, (1, 0), "01", "yes 1"),
+    (NOTHING_UNKNOWN, (0, 1), "01", "yes 1"),
+    (KNOWN_THEN_UNKNOWN, (0, 2), "00 03", "yes 2"),
+    (KNOWN_THEN_UNKNOWN, (0, 2), "00 01", "no 0"),   # 01 holds from 0 to 2, and not from 1
+    (KNOWN_THEN_UNKNOWN, (0, 2), "01 03", "no 1"),   # 03 holds from 1 to 2; (0,1) is known
+    (KNOWN_THEN_UNKNOWN, (2, 1), "03", "no 0"),
+    (KNOWN_AND_UNKNOWN, (0, 1), "00", "refused 16"),
 ]
 
 # Each row: the call, the file, the pair, the rule list, the expected line.
@@ -547,6 +733,18 @@ LIST_ROWS = [
     ("m", ONE_PARTY, (0, 0), "00 00", "compare same"),
     ("m", ONE_PARTY, (0, 0), "01 00  01 00  01 00", "compare same"),
     ("m", ONE_PARTY, (0, 0), "01 00", "refused 9"),
+    ("r", UNKNOWN_1, (1, 0), "01 00  01 00  01 01", "permit yes"),
+    ("r", UNKNOWN_1, (0, 1), "01 00  01 00  01 01", "permit no"),
+    ("r", UNKNOWN_1_EDITION_2, (0, 1), "01 00  01 00  01 01", "permit no"),
+    ("r", NOTHING_UNKNOWN, (0, 1), "01 00  01 00  01 01", "permit yes"),
+    ("r", KNOWN_AND_UNKNOWN, (0, 0), "", "refused 16"),
+    ("x", UNKNOWN_1, (0, 0), "01 00  01 00  01 01", "text 30 31 0A"),
+    ("x", KNOWN_AND_UNKNOWN, (0, 0), "", "refused 16"),
+    ("m", UNKNOWN_1, (0, 0), "01 00  01 00  01 01", "compare same"),
+    ("m", UNKNOWN_1_EDITION_2, (0, 0), "01 00  01 00  01 01", "compare same"),
+    ("m", UNKNOWN_1, (0, 0), "01 00  01 00  01 00", "compare 1 0 file"),
+    ("m", NOTHING_UNKNOWN, (0, 0), "01 00  01 00  01 01", "compare 0 1 list"),
+    ("m", KNOWN_AND_UNKNOWN, (0, 0), "", "refused 16"),
 ]
 
 # Each row of write: what it shows, the file, the output's length, the expected answer,
@@ -583,6 +781,21 @@ WRITE_ROWS = [
     ("L 8 and D 31 are kept for two parties and label 1",
      "01 02 08 02 1F 00 01 00  00 00 01 00  00 01 00 00", 17, "17",
      "02 02 08 02 1F 00 01 00  00 00 01 00  00 01 00 00 01"),
+    ("kinds FF, 81 and 0 to one target: the unknown one between the two",
+     "01 02 02 00 01 00 03 00  01 00 00 00  01 FF 02 00  01 81 03 00  01 00 00 00",
+     27, "27",
+     "02 02 02 00 01 00 03 00  01 00 00 00  01 00 02 00 00  01 81 03 00 00  01 FF 00 00 00"),
+    ("known, unknown and permit to one target, unknown alone to another",
+     "01 03 08 03 02 00 07 00  01 00 00 00 07 00"
+     "  01 87 02 00  01 00 03 00  02 80 04 00  01 FF 05 00  01 81 06 00  01 02 00 00  00 03 00 00",
+     49, "49",
+     "02 03 08 03 02 00 07 00  01 00 00 00 07 00"
+     "  01 00 02 00 00  01 02 03 00 00  01 81 04 00 00  01 87 05 00 00  01 FF 06 00 00  02 80 00 00 00  00 03 00 00 02"),
+    ("(0,1) unknown, permit (1,0)", UNKNOWN_1, 22, "22", UNKNOWN_1_EDITION_2),
+    ("the same in edition 2 is its own copy", UNKNOWN_1_EDITION_2, 23, "22", UNKNOWN_1_EDITION_2),
+    ("the same one byte short", UNKNOWN_1, 21, "refused 14", ""),
+    ("label 0 known, then unknown", KNOWN_AND_UNKNOWN, 30, "refused 16", ""),
+    ("the same with no output", KNOWN_AND_UNKNOWN, 0, "refused 16", ""),
     ("A with an output one byte short", A, 28, "refused 14", ""),
     ("A with an output of its own length", A, 26, "refused 14", ""),
     ("A in edition 2 with an output one byte short", A_EDITION_2, 28, "refused 14", ""),

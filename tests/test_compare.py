@@ -25,7 +25,7 @@ BROKEN_FILES = {
     3: stored.case_file("A with head 2 at record 4"), 4: stored.case_file("A with record 2's next 01 00"),
     5: stored.case_file("A with head 1 zero"), 6: stored.case_file("A with record 3's target 3, which is n"),
     7: stored.case_file("A with record 3's kind 1, which is L"), 8: stored.case_file("(0,1) with label 0 twice"),
-    15: stored.case_file("A in edition 2 with record 1's owner 01"),
+    15: stored.case_file("A in edition 2 with record 1's owner 01"), 16: stored.case_file("label 0 known, then unknown"),
 }
 BASE = ((0, 1, 0), (1, 2, 0))
 LIST_OF_A = "01 00 01 00 02 00 00"
@@ -515,6 +515,20 @@ class Demands(unittest.TestCase):
         known.mined = [[(0,)]]
         with self.assertRaisesRegex(AssertionError, "the mined list"):
             run_compare.add_file(made, converting.Made("by hand", A, known, [[(0,)]]))
+
+    def test_a_list_that_permits_more_with_a_relation_unknown(self):
+        made, rows = run_compare.Collection(random.Random(1)), []
+        known = brute.Known(stored.case_file("J"))          # (0,1) is a relation, (1,0) absent and permitted by 01
+        for reply in (SAME, differs(1, 0, "file"), differs(0, 1, "list")):
+            with mock.patch.object(made, "add", lambda *given: rows.append(given) or reply):
+                if reply[-1] == "list":
+                    with self.assertRaisesRegex(AssertionError, "by an unknown relation"):
+                        run_compare.add_made_unknown(made, converting.Made("J", A, known), known.terms())
+                else:
+                    run_compare.add_made_unknown(made, converting.Made("J", A, known), known.terms())
+        for other, _, listed in rows:
+            self.assertEqual((other.known.house.unknown, listed), ({(1, 0, 0)}, brute.encode_list([[(1,)]])))
+        self.assertEqual(brute.compare_reply(rows[0][0].known, rows[0][2]), differs(1, 0, "file"))
 
     def test_files_of_each_sort(self):
         made = run_compare.Collection(random.Random(1))

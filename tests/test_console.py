@@ -19,11 +19,13 @@ import comparing
 import console
 import console_demands
 import converting
+import files
 import large_console
 import make_examples
 import run_console
 import run_permitconv
 import stored
+import unknowns
 
 
 class Unpacking(unittest.TestCase):
@@ -36,15 +38,15 @@ class Unpacking(unittest.TestCase):
         self.assertEqual(console.unpack(0x80, console.PERMIT), ("no",))
         self.assertEqual(console.unpack(0x81, console.PERMIT), ("yes",))
         for kinds in (console.VERDICT, console.MINING, console.PERMIT):
-            for number in range(1, 16):
+            for number in range(1, 17):
                 self.assertEqual(console.unpack(number, kinds), ("refused", number))
 
     def test_nothing_else_is_a_reply(self):
-        for number in (0, 16, 127, 0x104, 0x10F, 0x83, 0x1000281, 0x10201010082, (1 << 64) - 1):
+        for number in (0, 17, 127, 0x104, 0x110, 0x83, 0x1000281, 0x10201010082, (1 << 64) - 1):
             self.assertEqual(console.unpack(number, console.VERDICT), ("unpacked", number))
-        for number in (0, 16, 127, 129, 130, 1 << 32 | 12):
+        for number in (0, 17, 127, 129, 130, 1 << 32 | 12):
             self.assertEqual(console.unpack(number, console.MINING), ("unpacked", number))
-        for number in (0, 16, 17, 127, 130, 0x180, 0x181, 1 << 63 | 129):
+        for number in (0, 17, 18, 127, 130, 0x180, 0x181, 1 << 63 | 129):
             self.assertEqual(console.unpack(number, console.PERMIT), ("unpacked", number))
 
 
@@ -58,6 +60,7 @@ class Header(unittest.TestCase):
         self.assertEqual(refusals, [number for number in console.REFUSALS if number != 11])  # 11 is path's and next-word's
         self.assertIn("#define HEMPMALLET_LONGEST_FILE %du" % (brute.PROGRAM_INPUT - 1), text)
         self.assertIn("HEMPMALLET_REFUSED_OWNER = 15", text)
+        self.assertIn("HEMPMALLET_REFUSED_KNOWN_AND_UNKNOWN = 16", text)
 
 
 # Functions that write where they may not. The first byte of a file says where.
@@ -228,7 +231,34 @@ class Drawing(unittest.TestCase):
 
     def test_every_demand_is_missed_by_nothing(self):
         run = run_console.Run(None, random.Random(5), comparing.Tally())
-        self.assertEqual(len(console_demands.lacking(run)), len(console_demands.DEMANDS) + 1)
+        self.assertEqual(len(console_demands.lacking(run)), len(console_demands.DEMANDS) + unknowns.LINES + 1)
+        before = console_demands.lacking(run)
+        run.account["made unknown: verdict changes in language 2"] = 1
+        self.assertEqual(len(console_demands.lacking(run)), len(before) + 1)
+
+    def test_one_made_unknown(self):
+        rng, seen = random.Random(9), Counter()
+        for made in [made for _ in range(80) for made in converting.of_one_graph(rng)]:
+            other = converting.with_one_unknown(rng, made)
+            if other is None:
+                self.assertEqual(files.absent_relations(made.known.house), [])
+                continue
+            one, two = made.known.house, other.known.house
+            self.assertEqual((len(two.unknown - one.unknown), other.known.edition), (1, made.known.edition))
+            self.assertEqual(one, two._replace(unknown=one.unknown))
+            seen.update(console_demands.made_unknown_occurrences(made.known, other.known))
+        for name in ("verdict changes", "verdict changes in language 1", "verdict changes in language 3", "verdict stays in language 0",
+                     "verdict stays in language 2", "verdict changes in edition 1", "convertible becomes convertible"):
+            self.assertGreater(seen[name], 5, seen)
+        self.assertEqual(seen["verdict changes in language 0"] + seen["verdict changes in language 2"], 0)
+
+    def test_the_changes_of_verdicts_by_hand(self):
+        known = {name: brute.Known(stored.case_file(name)) for name in (
+            "nothing unknown, permit (1,0)", "(0,1) unknown, permit (1,0)", "A")}
+        names = console_demands.made_unknown_occurrences(known["nothing unknown, permit (1,0)"], known["(0,1) unknown, permit (1,0)"])
+        self.assertEqual(names, ["verdict changes", "verdict changes in language 1", "verdict changes in edition 1",
+                                 "rival becomes convertible"])
+        self.assertEqual(console_demands.made_unknown_occurrences(known["A"], known["A"]), ["verdict stays in language 0"])
 
     def test_stored_examples(self):
         for name, data in make_examples.examples().items():

@@ -111,6 +111,10 @@ class Rows(unittest.TestCase):
         rows = [shortcuts.turned_ring(rng, n, language, 4, False) for n in (6, 7) for language in range(4)]
         rows += [shortcuts.exchanged(rng, n, language, 4, 2, False) for n in (4, 5, 6) for language in range(4)]
         rows += [shortcuts.copied(rng, 3, copies, language, 3, False) for copies in (2, 3) for language in range(4)]
+        rows += [shortcuts.turned_ring(rng, n, language, 4, False, True) for n in (6, 7) for language in (1, 3)]
+        rows += [shortcuts.exchanged(rng, n, language, 4, 2, False, True) for n in (4, 5, 6) for language in (1, 3)]
+        rows += [shortcuts.copied(rng, 3, copies, language, 3, False, True) for copies in (2, 3) for language in (1, 3)]
+        rows += [shortcuts.tournament(rng, language, 3, True) for language in (1, 3)]
         rows += [shortcuts.smaller_clique(rng, size, less, False) for size in (3, 4, 5) for less in (1, 2) if size > less + 1]
         rows += [shortcuts.two_sides(rng, few, many, False) for few in (2, 3) for many in (3, 4)]
         for row in rows:
@@ -169,13 +173,21 @@ class Alike(unittest.TestCase):
                                 (chain._replace(edges=alike.any_relations(rng, 4, 1, 1.0)), False)):
             self.assertEqual(alike.walked_only(house, brute.enlarged(house)), expected, house)
 
+    def test_symbols_among_others(self):
+        for language, edges, unknown, wanted in (
+                (1, {(0, 1, 0)}, set(), False), (3, {(0, 1, 0)}, set(), False), (1, set(), {(0, 1, 0)}, True),
+                (3, {(0, 1, 0)}, {(1, 2, 0)}, True), (0, {(0, 1, 0)}, set(), True)):
+            house = brute.House(3, 1, language, 2, edges, set(), unknown)
+            self.assertEqual(alike.contained(brute.enlarged(house)), wanted, house)
+
     def test_every_demand_can_be_met(self):
         names = {"convertible", "rival"} | {"rival by " + way for way in ("an exchange of two", "another map", "no map")}
         for kind in ("convertible", "rival"):
             names |= {kind + ", very many words", "symbols that hold for the same pairs, " + kind}
-            names.add("symbols that follow on walks only, " + kind)
+            names |= {"symbols that follow on walks only, " + kind, "unknown relations, " + kind}
             names |= {"language %d, %s" % (language, kind) for language in range(4)}
         names |= {"a word of 5 symbols or more is added", "several words are added"}
+        names |= {"a pair's symbols among another's in language 1 or 3" + more for more in ("", ", very many words")}
         self.assertEqual(set(alike.DEMANDS), names)
 
 

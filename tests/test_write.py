@@ -11,6 +11,7 @@ import files
 import run_write
 import script
 import stored
+import unknowns
 
 A = stored.case_file("A")
 A_TURNED = bytes.fromhex("01 03 01 00 02 00 03 00  02 00 03 00 00 00  01 00 00 00  02 FF 01 00  02 00 00 00")
@@ -23,8 +24,8 @@ def in_language(data, language):
     return data[:3] + bytes([language]) + data[4:]
 
 
-def matter(n, edges=(), permits=(), labels=1, longest=2):
-    return files.Matter(n, labels, 0, longest, set(edges), set(permits))
+def matter(n, edges=(), permits=(), labels=1, longest=2, unknown=()):
+    return files.Matter(n, labels, 0, longest, set(edges), set(permits), set(unknown))
 
 
 def first_records(n, labels, longest, *indexes):
@@ -84,6 +85,7 @@ OCCURRENCES = [
      ["refused 7", "file refused, no output"]),
     (stored.case_file("(0,1) with label 0 twice"), 60, ("refused", 8), ["refused 8", "file refused, output longer"]),
     (stored.case_file("A in edition 2 with record 1's owner 01"), 29, ("refused", 15), ["refused 15", "file refused, " + JUST]),
+    (stored.case_file("label 0 known, then unknown"), 20, ("refused", 16), ["refused 16", "file refused, " + JUST]),
     (LONGEST[1][:-1], 0, ("refused", 1), ["refused 1", "file refused, no output"]),
     (b"\3" + LONGEST[1][1:], 0, ("refused", 2), ["refused 2", "file refused, no output"]),
 ]
@@ -102,6 +104,8 @@ SEVERAL_LABELS = "several labels to one target"
 LOWER_KIND = "a lower kind byte at a higher target"
 BEFORE, BETWEEN = "an empty chain before all full ones", "an empty chain between full ones"
 D_ABOVE, D_UP = "D above n - 1", "D up to n - 1"
+UNKNOWN, BESIDE, ALL_THREE = "unknown relations", "known and unknown to one target", "known, unknown and a permit to one target"
+SEVERAL_UNKNOWN = "several unknown labels to one target"
 
 # With 17 parties and L 1, each party has 32 records, of which each permit stands before the next relation.
 OF_17 = [BOTH_TO_ONE, LOWER_KIND, D_UP]
@@ -141,6 +145,19 @@ FEATURES = [
     (matter(3, [(0, 1, 7)], labels=8), ["label 7", "a label that no record uses", D_UP]),
     (matter(3, [(0, 1, 6)], labels=8), ["a label that no record uses", D_UP]),
     (matter(3, [(0, 1, label) for label in range(8)], labels=8), ["label 7", SEVERAL_LABELS, D_UP]),
+    # unknown relations
+    (matter(3, unknown=[(0, 1, 0)]), [UNKNOWN, "unknown relations alone", D_UP]),
+    (matter(3, permits=[(0, 1)], unknown=[(0, 1, 0)]), [UNKNOWN, D_UP]),
+    (matter(3, [(0, 1, 0)], unknown=[(0, 2, 0)]), [UNKNOWN, D_UP]),
+    (matter(3, [(0, 1, 0)], unknown=[(0, 1, 1)], labels=2), [UNKNOWN, BESIDE, D_UP]),
+    (matter(3, [(0, 1, 0)], unknown=[(1, 0, 1)], labels=2), [UNKNOWN, D_UP]),
+    (matter(3, [(0, 1, 0)], [(0, 1)], unknown=[(0, 1, 1)], labels=2), [UNKNOWN, BESIDE, ALL_THREE, BOTH_TO_ONE, D_UP]),
+    (matter(3, [(0, 1, 0)], [(0, 2)], unknown=[(0, 1, 1)], labels=2), [UNKNOWN, BESIDE, D_UP]),
+    (matter(3, unknown=[(0, 1, 0), (0, 1, 1)], labels=2), [UNKNOWN, "unknown relations alone", SEVERAL_UNKNOWN, D_UP]),
+    (matter(3, unknown=[(0, 1, 0), (0, 2, 0)]), [UNKNOWN, "unknown relations alone", D_UP]),
+    (matter(3, unknown=[(0, 1, 7)], labels=8), [UNKNOWN, "unknown relations alone", "label 7", "label 7 unknown",
+                                                "a label that no record uses", D_UP]),
+    (matter(3, [(0, 1, 7)], unknown=[(0, 2, 6)], labels=8), [UNKNOWN, "label 7", "a label that no record uses", D_UP]),
     # many records
     (first_records(17, 1, 16, 255), OF_17),
     (first_records(17, 1, 16, 256), OF_17 + ["256 records or more"]),
@@ -150,6 +167,8 @@ FEATURES = [
     (first_records(32, 8, 31, 1, 558), OF_32 + ["a chain of 279 records"]),
     (first_records(32, 8, 31, 8927), OF_32 + ["every chain full", "a chain of 279 records"]),
     (first_records(32, 8, 31, 8928), OF_32 + ["every chain full", "a chain of 279 records", "R 8,928"]),
+    (files.made_unknown(first_records(32, 8, 31, 8928), [(0, 1, 0)]), OF_32 + [
+        "every chain full", "a chain of 279 records", "R 8,928", "R 8,928 with unknown relations", UNKNOWN, BESIDE, ALL_THREE]),
 ]
 
 # Files of edition 1 and of edition 2 with no head and one record; the record's first byte tells them apart.
@@ -227,6 +246,7 @@ class Names(unittest.TestCase):
         for begins in (run_write.OTHER_EDITION, run_write.UNLIKE):
             shown |= {begins + name for _, name in ANSWERS}
             shown |= {begins + "files in language %d" % language for language in range(4)}
+            shown.add(begins + "files with unknown relations")
         self.assertEqual(set(run_write.DEMANDS) - shown, set())
 
 
@@ -271,10 +291,11 @@ class Counting(unittest.TestCase):
     def test_changes(self):
         made = collection()
         for _ in range(40):
-            run_write.add_matter(made, matter(3, [(0, 1, 0)]))
+            run_write.add_matter(made, matter(3, [(0, 1, 0)], unknown=[(1, 2, 0)]))
         changed = {name: times for name, times in made.account.items() if name.startswith("changed: ")}
         self.assertEqual(set(changed), {"changed: " + name for name in run_write.CHANGES})
-        self.assertEqual(sum(changed.values()), 40 * run_write.CHANGES_OF_MATTER)
+        # The drawn relation may be the unknown one, which isn't made known too.
+        self.assertIn(sum(changed.values()), range(39 * run_write.CHANGES_OF_MATTER, 40 * run_write.CHANGES_OF_MATTER + 1))
 
     def test_one_party_has_no_pair_to_change(self):
         made = collection()
@@ -288,7 +309,7 @@ class Counting(unittest.TestCase):
         made.demand(True, "one")
         made.demand(False, "other")
         self.assertEqual(run_write.lacking(made)[0], "other")
-        self.assertEqual(len(run_write.lacking(made)), 1 + len(run_write.DEMANDS))
+        self.assertEqual(len(run_write.lacking(made)), 1 + len(run_write.DEMANDS) + unknowns.LINES)
 
 
 class AskedAgain(unittest.TestCase):

@@ -3,9 +3,9 @@
 //! Eight kinds of relations, four languages, D 2, 3, 4, 6 and 31, four files of each: 640. About half of them are
 //! regular: what is random in their kind is left out, and many parties are alike. The permits of a file are those of
 //! one to four rules; in every second file one permit is then added or taken away by hand. Beside these a few files
-//! that are hard or special by themselves.
+//! that are hard or special by themselves, and 80 of these kinds in which some parties' relations are unknown.
 
-use crate::house::{self, House, PERMIT_KIND};
+use crate::house::{self, House, PERMIT_KIND, UNKNOWN};
 use crate::random::{own_word, Random};
 use crate::rules::{self, Term};
 
@@ -22,10 +22,13 @@ pub struct Archive {
     pub file: Vec<u8>,
 }
 
-/// From, to, label; a permit has PERMIT_KIND.
+/// From, to, label; a permit has PERMIT_KIND, an unknown relation UNKNOWN and its label.
 pub type Records = Vec<(usize, usize, usize)>;
 
-pub const KINDS: [&str; 9] = ["hierarchy", "teams", "chains", "layers", "loans", "star", "mirror", "school", "fixed"];
+pub const KINDS: [&str; 10] =
+    ["hierarchy", "teams", "chains", "layers", "loans", "star", "mirror", "school", "fixed", "unknown"];
+const WHOLE: usize = 8; // of the kinds: their relations are drawn, and all known
+const PARTLY: usize = 9; // the kind with unknown relations
 const LONGEST: [usize; 5] = [2, 3, 4, 6, 31];
 const SIZES: [usize; 8] = [4, 8, 10, 12, 16, 20, 24, 32];
 const NOTES: [&str; 4] = ["rules", "one added", "rules", "one taken"];
@@ -34,26 +37,40 @@ const TRIES: usize = 50;
 const SEEDS: u64 = 10_000; // more than a drawing takes
 
 /// All files of a drawing, in an order that is shuffled once and for all, so that a part has something of everything. The
-/// fixed ones are the same in each.
+/// fixed ones are the same in each. Those with unknown relations come last, shuffled too.
 pub fn all(draw: u64) -> Vec<Archive> {
     let mut archives = fixed();
-    for (number, kind) in KINDS[..8].iter().enumerate() {
-        for language in 0..4 {
-            for longest in LONGEST {
-                for (round, note) in NOTES.iter().enumerate() {
-                    let seed = ((number * 4 + language as usize) * 32 + longest) * 4 + round;
-                    archives.push(drawn(kind, note, language, longest, Random(1000 + SEEDS * draw + seed as u64)));
-                }
+    archives.extend((0..WHOLE).flat_map(|number| of_kind(number, draw)));
+    Random(7).shuffle(&mut archives);
+    let mut partly = of_kind(PARTLY, draw);
+    Random(8).shuffle(&mut partly);
+    archives.extend(partly);
+    archives
+}
+
+/// The files of one kind in each language, with each D.
+fn of_kind(number: usize, draw: u64) -> Vec<Archive> {
+    let mut archives = Vec::new();
+    for language in 0..4 {
+        for longest in LONGEST {
+            for (round, note) in NOTES.iter().enumerate() {
+                let seed = ((number * 4 + language as usize) * 32 + longest) * 4 + round;
+                archives.push(drawn(KINDS[number], note, language, longest, Random(1000 + SEEDS * draw + seed as u64)));
             }
         }
     }
-    Random(7).shuffle(&mut archives);
     archives
 }
 
 fn drawn(kind: &'static str, note: &'static str, language: u8, longest: usize, mut random: Random) -> Archive {
     let (parties, labels) = (random.choose(&SIZES), 1 + random.below(3));
-    let mut records = relations(kind, &mut random, parties, labels);
+    let mut records = if kind == KINDS[PARTLY] {
+        let whole = random.choose(&KINDS[..WHOLE]);
+        let known = relations(whole, &mut random, parties, labels);
+        with_lost_books(&mut random, parties, labels, known)
+    } else {
+        relations(kind, &mut random, parties, labels)
+    };
     let house = house_of(parties, labels, language, longest, &records);
     let mut permits = permits_of_rules(&mut random, &house);
     let changed: Vec<(usize, usize)> = match note {
@@ -303,6 +320,25 @@ fn school(random: &mut Random, parties: usize) -> Records {
             records.push((friend, pupil, 2));
         }
     }
+    records
+}
+
+/// The books of a few parties are lost: what isn't known of their relations with some others is unknown. Something
+/// is unknown, if that can be had in a few tries.
+fn with_lost_books(random: &mut Random, parties: usize, labels: usize, known: Records) -> Records {
+    let mut records = known.clone();
+    let books = 1 + random.below(1 + parties / 4);
+    for book in 0..TRIES {
+        if book >= books && records.len() > known.len() {
+            break;
+        }
+        let (owner, every) = (random.below(parties), 1 + random.below(3));
+        let others = (0..parties).filter(|&to| to != owner && to % every == 0);
+        let unknown = others.flat_map(|to| (0..labels).map(move |label| (owner, to, label))).filter(|one| !known.contains(one));
+        records.extend(unknown.map(|(from, to, label)| (from, to, UNKNOWN as usize + label)));
+    }
+    records.sort_unstable();
+    records.dedup();
     records
 }
 

@@ -3,6 +3,8 @@
 use crate::twin::{Graph, Pair, MOST_PARTIES};
 
 pub const PERMIT_KIND: u8 = 0xFF;
+/// And a label: the kind byte of an unknown relation.
+pub const UNKNOWN: u8 = 0x80;
 const MOST_RECORDS: usize = 8928;
 
 /// What the searches need of an accepted file.
@@ -20,6 +22,13 @@ pub type Permits = [u32; MOST_PARTIES];
 
 /// Bit l of an entry stands for label l from the row's party to the column's.
 type Relations = [[u8; MOST_PARTIES]; MOST_PARTIES];
+
+/// What the chains of an accepted file say.
+struct Said {
+    known: Relations,
+    unknown: Relations,
+    permits: Permits,
+}
 
 impl House {
     /// Whether the symbol's label is below L and its kind one of the language's.
@@ -77,9 +86,9 @@ pub fn read(file: &[u8]) -> Result<House, u8> {
     if file.len() != record_place(file, records + 1) {
         return Err(1);
     }
-    let (relations, permits) = follow(file, parties, labels, records)?;
-    let graph = enlarge(&relations, parties, labels, language);
-    Ok(House { parties, labels, language, longest, graph, permits })
+    let said = follow(file, parties, labels, records)?;
+    let graph = enlarge(&said, parties, labels, language);
+    Ok(House { parties, labels, language, longest, graph, permits: said.permits })
 }
 
 /// Where a record begins. In edition 2 the owner follows the four bytes of edition 1.
@@ -89,9 +98,9 @@ fn record_place(file: &[u8], number: usize) -> usize {
 }
 
 /// Follows the chains of all parties in order.
-fn follow(file: &[u8], parties: usize, labels: usize, records: usize) -> Result<(Relations, Permits), u8> {
-    let mut relations = [[0u8; MOST_PARTIES]; MOST_PARTIES];
-    let mut permits = [0u32; MOST_PARTIES];
+fn follow(file: &[u8], parties: usize, labels: usize, records: usize) -> Result<Said, u8> {
+    let none = [[0u8; MOST_PARTIES]; MOST_PARTIES];
+    let mut said = Said { known: none, unknown: none, permits: [0; MOST_PARTIES] };
     let mut reached = [false; MOST_RECORDS + 1];
     let mut count = 0;
     for party in 0..parties {
@@ -113,19 +122,13 @@ fn follow(file: &[u8], parties: usize, labels: usize, records: usize) -> Result<
             if target >= parties || target == party {
                 return Err(6);
             }
-            if kind as usize >= labels && kind != PERMIT_KIND {
-                return Err(7);
-            }
             if kind == PERMIT_KIND {
-                if permits[party] >> target & 1 != 0 {
+                if said.permits[party] >> target & 1 != 0 {
                     return Err(8);
                 }
-                permits[party] |= 1 << target;
+                said.permits[party] |= 1 << target;
             } else {
-                if relations[party][target] >> kind & 1 != 0 {
-                    return Err(8);
-                }
-                relations[party][target] |= 1 << kind;
+                say_relation(&mut said, labels, party, target, kind)?;
             }
             link = two_bytes(file, at + 2);
         }
@@ -133,20 +136,39 @@ fn follow(file: &[u8], parties: usize, labels: usize, records: usize) -> Result<
     if count < records {
         return Err(5);
     }
-    Ok((relations, permits))
+    Ok(said)
 }
 
-/// For each two parties the symbols of the language that hold.
-fn enlarge(relations: &Relations, parties: usize, labels: usize, language: u8) -> Graph {
+/// Adds a relation, known or unknown by its kind byte.
+fn say_relation(said: &mut Said, labels: usize, party: usize, target: usize, kind: u8) -> Result<(), u8> {
+    let label = kind % UNKNOWN;
+    if label as usize >= labels {
+        return Err(7);
+    }
+    let (own, opposite) = if kind < UNKNOWN { (&mut said.known, &said.unknown) } else { (&mut said.unknown, &said.known) };
+    if own[party][target] >> label & 1 != 0 {
+        return Err(8);
+    }
+    if opposite[party][target] >> label & 1 != 0 {
+        return Err(16);
+    }
+    own[party][target] |= 1 << label;
+    Ok(())
+}
+
+/// For each two parties the symbols of the language that hold. Of an unknown relation none does.
+fn enlarge(said: &Said, parties: usize, labels: usize, language: u8) -> Graph {
     let kinds = kinds_of(language);
     let mut graph = [[0u32; MOST_PARTIES]; MOST_PARTIES];
     for u in 0..parties {
         for v in 0..parties {
             if u != v {
                 for label in 0..labels {
-                    let out = relations[u][v] >> label & 1 != 0;
-                    let back = relations[v][u] >> label & 1 != 0;
-                    for (kind, holds) in [out, !out, back, !back].into_iter().enumerate() {
+                    let has = |relations: &Relations, from: usize, to: usize| relations[from][to] >> label & 1 != 0;
+                    let (out, back) = (has(&said.known, u, v), has(&said.known, v, u));
+                    let absent = !out && !has(&said.unknown, u, v);
+                    let absent_back = !back && !has(&said.unknown, v, u);
+                    for (kind, holds) in [out, absent, back, absent_back].into_iter().enumerate() {
                         if kinds[kind] && holds {
                             graph[u][v] |= 1 << (4 * label + kind);
                         }
@@ -159,7 +181,7 @@ fn enlarge(relations: &Relations, parties: usize, labels: usize, language: u8) -
 }
 
 /// The bytes of a file with these relations (from, to, label), each chain in the order given.
-/// A permit stands among them with PERMIT_KIND as its label.
+/// A permit stands among them with PERMIT_KIND as its label, an unknown relation with UNKNOWN and its label.
 pub fn lay_out(parties: usize, labels: usize, language: u8, longest: usize,
                relations: &[(usize, usize, usize)]) -> Vec<u8> {
     let mut heads = vec![0usize; parties];

@@ -1,23 +1,26 @@
 -- The canonical file of a matter in limits is accepted, in either edition: it is well formed, statement by statement. Assumes nothing.
-use Rattle.std.proofs.Common.{Ok, ◌≡◌, sym, ap, ◌∙◌, ℕ, suc, ◌≤◌, ◌<◌, arith, length, get_or}
+use Rattle.std.proofs.Common.{Ok, ◌≡◌, refl, sym, ap, ◌∙◌, ℕ, suc, ◌≤◌, ◌<◌, arith, length, get_or}
 use mathlib.Core.List.{Memᴰ}
 use Rattle.lists.proofs.Distinct.{get_or_in, distinct_places}
+use Rattle.lists.proofs.ListLaws.{any_in}
 use Rattle.lists.proofs.OrderLaws.{up_distinct}
 use Rattle.rebac.specs.Matter.{Matter}
-use Rattle.house_layout.specs.Layout.{parties_of, record_of}
+use Rattle.house_layout.specs.Layout.{parties_of, record_of, unknown_kind}
 use Rattle.house_layout.specs.declared.record.Record.{Record}
 use Rattle.house_layout.proofs.LayoutLaws.{owner_named}
-use Rattle.house_layout.proofs.RecordLaws.{kind_cases}
+use Rattle.house_layout.proofs.KindLaws.{kind_cases}
 use Rattle.house_file.specs.Check.{check_of}
 use Rattle.house_file.specs.Meaning.{chain_of, IsEdition, FieldsRight, RecordsRight, WellFormed}
+use Rattle.house_file.proofs.FollowLaws.{says_in}
 use Rattle.house_file.proofs.WellFormedLaws.{accepted_iff_well_formed}
 use Rattle.canonical.specs.Canonical.{Entry, entries_of, first_of, canonical_of}
 use Rattle.canonical.specs.Shape.{InLimits}
 use Rattle.canonical.proofs.LayoutLaws.{no_entry, first_step, first_order, canonical_size, canonical_edition}
 use Rattle.canonical.proofs.LayoutLaws.{canonical_zero, canonical_parties, canonical_labels}
 use Rattle.canonical.proofs.LayoutLaws.{canonical_language, canonical_longest, canonical_records}
-use Rattle.canonical.proofs.EntryLaws.{Says, entry_out, entries_distinct, says_pair, entries_bounded}
+use Rattle.canonical.proofs.EntryLaws.{Says, entry_out, entries_distinct, says_pair, says_once, entries_bounded}
 use Rattle.canonical.proofs.ChainLaws.{At, canonical_chain, canonical_linked, chain_at, canonical_reached}
+use Rattle.canonical.proofs.MatterLaws.{record_said}
 
 module _ (e : ℕ) (known : IsEdition e) (M : Matter) (i : InLimits M) where
   fields : FieldsRight (canonical_of e M)
@@ -85,6 +88,11 @@ module _ (e : ℕ) (known : IsEdition e) (M : Matter) (i : InLimits M) where
         let k = ap (λ (x : Record). x.kind) a.says in
         rw (k, canonical_labels e M) (kind_cases M.labels _ (entry_at u g r a).legal);
     different = λ u r s h m n t k. different u (inner u h) r s m n t k;
+    consistent = λ u r s l h m n t b p q.
+        let v : ℕ = (record_of (canonical_of e M) s).target in
+        says_once M i u v l (rw (canonical_labels e M) at b)
+        (record_said e M i u v l (inner u h) (any_in _ _ m (says_in (canonical_of e M) v l r t p)))
+        (record_said e M i u v (unknown_kind l) (inner u h) (any_in _ _ n (says_in (canonical_of e M) v (unknown_kind l) s refl q)));
   }
 
   pub canonical_well_formed : WellFormed (canonical_of e M)

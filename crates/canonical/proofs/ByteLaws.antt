@@ -12,7 +12,7 @@ use Rattle.fields.specs.Numbers.{u16_bytes, Bytes}
 use Rattle.rebac.specs.Matter.{Matter}
 use Rattle.house_layout.specs.Layout.{owner_in}
 use Rattle.house_layout.specs.declared.record.Record.{Record}
-use Rattle.house_layout.proofs.RecordLaws.{kind_small}
+use Rattle.house_layout.proofs.KindLaws.{kind_small}
 use Rattle.house_file.specs.Meaning.{IsEdition}
 use Rattle.canonical.specs.Canonical.{Entry, entries_of, count_of, first_of, link, records_for, header_bytes, heads_by}
 use Rattle.canonical.specs.Canonical.{owner_bytes, record_bytes, header_for, canonical_of}

@@ -47,7 +47,7 @@ module _ (f : List ℕ) (a : check_of f ≡ Ok tt) where
   copy_recorded : (u v k : ℕ) → legal_kind (labels_of f) k ≡ true
       → recorded (canonical_of written_edition (matter_of f)) u v k ≡ recorded f u v k
   copy_recorded u v k l =
-      canonical_recorded written_edition (matter_of f) (accepted_matter f a) u v k (rw (matter_labels f) l) ∙ matter_says f u v k l
+      canonical_recorded written_edition (matter_of f) (accepted_matter f a) u v k (rw (matter_labels f) l) ∙ matter_says f a u v k l
 
   -- an accepted file's R is the number of its entries
   pub accepted_count : records_of f ≡ count_of (matter_of f)
@@ -94,6 +94,7 @@ module _ (f g : List ℕ) where
     language = s.language j;
     longest = s.longest j;
     edge = λ u v l. s.edges u v l j;
+    unknown = λ u v l. s.unknowns u v l j;
     permit = λ u v. s.permits u v j;
   }
 
@@ -111,6 +112,7 @@ module _ (f g : List ℕ) where
       longest = ap (λ (M : Matter). M.longest) e;
       records = records_follow e;
       edges = λ u v l. ap (λ (M : Matter). M.edge u v l) e;
+      unknowns = λ u v l. ap (λ (M : Matter). M.unknown u v l) e;
       permits = λ u v. ap (λ (M : Matter). M.permit u v) e;
     }
 
@@ -170,7 +172,7 @@ write_again f a size c e j =
     let l : length c ≡ file_size written_edition (parties_of c) (records_of c) = ap length (sym p) ∙ copy_size c k.accepted in
     (λ h. write_fits c k.accepted j (omega arith) ∙ ap writes p, λ h. write_short c k.accepted j (omega arith))
 
--- the file's refusals, 1 to 8 and 15, and 14; no other
+-- the file's refusals, 1 to 8, 15 and 16, and 14; no other
 pub write_refusals : (f : List ℕ) (size : ℕ) (x : Refusal) → write_call f size ≡ refuses x → OfFile x ⊎ (x ≡ Output)
 unfolding write_call write_in copy_for
 write_refusals f size x e =

@@ -1,11 +1,11 @@
 -- How many records there are: kinds place by place, entries target by target, parties one after
 -- another. Each count grows by the piece at its place. Assumes nothing.
-use Rattle.std.proofs.Common.{◌≡◌, refl, sym, ap, ◌∙◌, Bool, true, false, List, [], ◌∷◌, ◌++◌, map, ℕ, suc}
-use Rattle.std.proofs.Common.{◌+◌, ◌*◌, ◌≤◌, ◌<◌, add-one, arith, eqb, length, get_or, take, drop, set, length-append}
+use Rattle.std.proofs.Common.{◌≡◌, refl, sym, ap, ◌∙◌, Bool, true, false, List, [], ◌∷◌, ◌++◌, map, ℕ, suc, ◌-◌}
+use Rattle.std.proofs.Common.{◌+◌, ◌*◌, ◌≤◌, ◌<◌, add-one, arith, eqb, ltb, length, get_or, take, drop, set, length-append}
 use Rattle.std.proofs.Common.{take-append-drop, take_all, get_or-set_same, get_or-set_other}
 use Rattle.std.proofs.Common.{cond, zero, zero-add, Option, Some}
 use Rattle.std.specs.Option.{unwrap_or, option_map}
-use Rattle.std.proofs.lemmas.List.{ext_get_or}
+use Rattle.std.proofs.lemmas.List.{ext_get_or, get_or-append-add}
 use Rattle.std.specs.List.{count_by, sum_by}
 use Rattle.std.proofs.lemmas.List.Sums.{sum_by-cons}
 use Rattle.std.proofs.Math.Logic.{by_cases}
@@ -18,16 +18,16 @@ use Rattle.lists.proofs.Distinct.{get_or_in}
 use Rattle.lists.proofs.ListLaws.{up_length}
 use Rattle.lists.proofs.OrderLaws.{length_map}
 use Rattle.lists.proofs.Pointwise.{filter_append, filter_length, filter_take_in, filter_take_out, filter_same, flat_same}
-use Rattle.lists.proofs.Pieces.{up_at, flat_suc, flat_none, flat_most}
+use Rattle.lists.proofs.Pieces.{get_or_map, up_at, flat_suc, flat_none, flat_most}
 use Rattle.masks.specs.promises.Mask.{test_bit}
 use Rattle.masks.specs.promises.Table.{no_row, mask_in, mask_at}
 use Rattle.masks.specs.declared.Row.{Row}
 use Rattle.masks.specs.declared.Table.{Table}
 use Rattle.rebac.specs.Matter.{Matter}
-use Rattle.house_layout.specs.Layout.{permit_kind}
+use Rattle.house_layout.specs.Layout.{unknown_from, unknown_kind, permit_kind}
 use Rattle.house_layout.specs.promises.Kinds.{bit_of}
 use Rattle.house_layout.specs.declared.header.Header.{Header}
-use Rattle.house_layout.proofs.RecordLaws.{bit_small}
+use Rattle.house_layout.proofs.KindLaws.{bit_small}
 use Rattle.canonical.specs.Canonical.{Entry, entry, kind_bytes, says_kind, pair_entries, entries_of, entries_below, first_of}
 use Rattle.canonical.specs.promises.Masks.{matter_in, kinds_in}
 use Rattle.canonical.proofs.EntryLaws.{kinds_number, listed_kind_lem}
@@ -37,17 +37,47 @@ use Rattle.canonical.proofs.LayoutLaws.{first_step}
 pub kind_label : (labels place : ℕ) → place < labels → get_or (kind_bytes labels) place 0 ≡ place
 unfolding kind_bytes range
 kind_label labels place h =
-    get_or-append (up_from 0 labels) (permit_kind ∷ []) 0 place (omega (arith, up_length 0 labels))
+    get_or-append (up_from 0 labels) _ 0 place (omega (arith, up_length 0 labels))
     ∙ up_at 0 labels place 0 h
     ∙ omega arith
 
--- at the last place a permit's kind
-pub kind_permit : (labels : ℕ) → get_or (kind_bytes labels) labels 0 ≡ permit_kind
+-- after them 80 plus each label
+after_labels : (labels place : ℕ)
+    → get_or (kind_bytes labels) (labels + place) 0 ≡ get_or (map unknown_kind (range labels) ++ (permit_kind ∷ [])) place 0
 unfolding kind_bytes range
-kind_permit labels = get_or_at (up_from 0 labels) permit_kind [] 0 labels (up_length 0 labels)
+after_labels labels place =
+    ap (λ (i : ℕ). get_or (kind_bytes labels) (i + place) 0) (sym (up_length 0 labels))
+    ∙ get_or-append-add (up_from 0 labels) (map unknown_kind (range labels) ++ (permit_kind ∷ [])) place 0
+
+unknown_places : (labels : ℕ) → length (map unknown_kind (up_from 0 labels)) ≡ labels
+unknown_places labels = length_map unknown_kind (up_from 0 labels) ∙ up_length 0 labels
+
+pub kind_unknown : (labels place : ℕ) → labels ≤ place → place < 2 * labels
+    → get_or (kind_bytes labels) place 0 ≡ unknown_kind (place - labels)
+unfolding range
+kind_unknown labels place h l =
+    let at : ℕ = place - labels in
+    let e : place ≡ labels + at = omega arith in
+    ap (λ (i : ℕ). get_or (kind_bytes labels) i 0) e
+    ∙ after_labels labels at
+    ∙ get_or-append (map unknown_kind (up_from 0 labels)) (permit_kind ∷ []) 0 at (omega (arith, unknown_places labels))
+    ∙ get_or_map unknown_kind (up_from 0 labels) at 0 0 (omega (arith, up_length 0 labels))
+    ∙ ap unknown_kind (up_at 0 labels at 0 (omega arith))
+    ∙ omega arith
+
+-- at the last place a permit's kind
+pub kind_permit : (labels place : ℕ) → 2 * labels ≤ place → place ≤ 2 * labels → get_or (kind_bytes labels) place 0 ≡ permit_kind
+unfolding range
+kind_permit labels place h l =
+    let e : place ≡ labels + labels = omega arith in
+    ap (λ (i : ℕ). get_or (kind_bytes labels) i 0) e
+    ∙ after_labels labels labels
+    ∙ get_or_at (map unknown_kind (up_from 0 labels)) permit_kind [] 0 labels (unknown_places labels)
+
+pub ruleset kind_laws = (kind_label, kind_unknown, kind_permit)
 
 -- every kind in order is legal, so that its place in a mask is one
-pub place_small : (labels place : ℕ) → labels ≤ 8 → place ≤ labels → bit_of (get_or (kind_bytes labels) place 0) < 32
+pub place_small : (labels place : ℕ) → labels ≤ 8 → place ≤ 2 * labels → bit_of (get_or (kind_bytes labels) place 0) < 32
 place_small labels place few h =
     bit_small labels few _ (listed_kind_lem labels _ (get_or_in (kind_bytes labels) place 0 (omega (arith, kinds_number labels))))
 
@@ -82,12 +112,12 @@ module _ (labels mask : ℕ) where
   unfolding kinds_to filter_by
   kinds_none = refl
 
-  pub kinds_all : (place : ℕ) → labels < place → kinds_to labels mask place ≡ kinds_in labels mask
+  pub kinds_all : (place : ℕ) → 2 * labels < place → kinds_to labels mask place ≡ kinds_in labels mask
   unfolding kinds_to kinds_in
   kinds_all place h =
       ap (filter_by (λ k. test_bit mask (bit_of k))) (take_all place (kind_bytes labels) (omega (arith, kinds_number labels)))
 
-  module _ (place : ℕ) (h : place ≤ labels) where
+  module _ (place : ℕ) (h : place ≤ 2 * labels) where
     pub kinds_more : test_bit mask (bit_of (get_or (kind_bytes labels) place 0)) ≡ true
         → kinds_to labels mask (place + 1) ≡ kinds_to labels mask place ++ (get_or (kind_bytes labels) place 0 ∷ [])
     unfolding kinds_to
@@ -99,7 +129,7 @@ module _ (labels mask : ℕ) where
     kinds_same t = filter_take_out (λ k. test_bit mask (bit_of k)) (kind_bytes labels) place 0 (omega (arith, kinds_number labels)) t
 
   -- they are counted by a test of each place's kind
-  pub kinds_count : (ks : List ℕ) → length ks ≡ labels + 1 → ((i : ℕ) → i < length ks → get_or ks i 0 ≡ i)
+  pub kinds_count : (ks : List ℕ) → length ks ≡ 2 * labels + 1 → ((i : ℕ) → i < length ks → get_or ks i 0 ≡ i)
       → count_by (λ place. test_bit mask (bit_of (get_or (kind_bytes labels) place 0))) ks ≡ length (kinds_in labels mask)
   unfolding kinds_in
   kinds_count ks n h =
@@ -109,7 +139,7 @@ module _ (labels mask : ℕ) where
       (λ i l. ap p (h i (omega (arith, n, kinds_number labels))))
 
   -- no more than there are kinds
-  pub kinds_bounded : length (kinds_in labels mask) ≤ labels + 1
+  pub kinds_bounded : length (kinds_in labels mask) ≤ 2 * labels + 1
   unfolding kinds_in
   kinds_bounded = omega (arith, filter_length (λ k. test_bit mask (bit_of k)) (kind_bytes labels), kinds_number labels)
 
@@ -123,7 +153,7 @@ module _ (labels mask : ℕ) where
       omega (arith, ap length e, length-append (filter_by p (take place l)) (filter_by p (drop place l)))
 
   -- where the kind at a place is one, the kinds before it are not all
-  pub kinds_room : (place : ℕ) → place ≤ labels → test_bit mask (bit_of (get_or (kind_bytes labels) place 0)) ≡ true
+  pub kinds_room : (place : ℕ) → place ≤ 2 * labels → test_bit mask (bit_of (get_or (kind_bytes labels) place 0)) ≡ true
       → length (kinds_to labels mask place) < length (kinds_in labels mask)
   kinds_room place h t =
       let kind : ℕ = get_or (kind_bytes labels) place 0 in
@@ -133,7 +163,8 @@ module _ (labels mask : ℕ) where
 module _ (h : Header) (k : Table) (u v : ℕ) where
   pub says_mask : (b : ℕ) → says_kind (matter_in h k) u v b ≡ test_bit (mask_at k u v) (bit_of b)
   unfolding says_kind
-  says_mask b = by_test (eqb b permit_kind) (λ e. rw e) (λ e. rw e)
+  says_mask b =
+      by_test (eqb b permit_kind) (λ e. rw e) (λ e. by_test (ltb b unknown_from) (λ g. rw (e, g)) (λ g. rw (e, g)))
 
   pair_kinds : pair_entries (matter_in h k) u v ≡ map (entry u v) (kinds_in h.labels (mask_at k u v))
   unfolding pair_entries kinds_in
@@ -176,11 +207,12 @@ module _ (labels : ℕ) (row : Row) (u : ℕ) where
       flat_count (λ v. length (kinds_in labels (mask_in row v))) f (λ v. sym (length_map (entry u v) (kinds_in labels (mask_in row v)))) vs
       ∙ ap (λ (l : List ℕ). length (flat_map f l)) e
 
-  -- a pair has at most nine
-  pub row_bounded : labels ≤ 8 → (v : ℕ) → length (row_to labels row u v) ≤ 9 * v
+  -- a mask has at most seventeen
+  pub row_bounded : labels ≤ 8 → (v : ℕ) → length (row_to labels row u v) ≤ 17 * v
   row_bounded few zero = omega (arith, ap length row_none)
   row_bounded few (suc v) =
-      omega (arith, ap (λ (k : ℕ). length (row_to labels row u k)) (add-one v), row_step v, kinds_bounded labels (mask_in row v), row_bounded few v)
+      let more = ap (λ (k : ℕ). length (row_to labels row u k)) (add-one v) in
+      omega (arith, more, row_step v, kinds_bounded labels (mask_in row v), row_bounded few v)
 
   row_most : (v n : ℕ) → v ≤ n → length (row_to labels row u v) ≤ length (row_to labels row u n)
   unfolding row_to

@@ -18,5 +18,5 @@ module _ (f : List ℕ) (e : check_of f ≡ Ok tt) where
     labels = ap (λ (h : Header). h.labels) d.header;
     language = ap (λ (h : Header). h.language) d.header;
     longest = ap (λ (h : Header). h.longest) d.header;
-    kinds = λ u v b h. d.kinds u v b h ∙ sym (matter_says f u v b h);
+    kinds = λ u v b h. d.kinds u v b h ∙ sym (matter_says f e u v b h);
   }

@@ -1,31 +1,33 @@
 -- What an accepted file records: its matter is in limits, and its R is the number of (owner, target, kind) that it records, since
 -- the records of all chains are the numbers 1 to R, each once, and no two say the same. Assumes nothing.
-use Rattle.std.proofs.Common.{Ok, ◌≡◌, refl, sym, ap, ◌∙◌, true, true≢false, List, map, ℕ, ◌<◌}
-use Rattle.std.proofs.Common.{arith, eqb, ltb, length, eqb-true, eq-eqb, lt-ltb, ltb-true}
+use Rattle.std.proofs.Common.{Ok, ◌≡◌, refl, sym, ap, ◌∙◌, ⊎_elim, true, List, map, ℕ, ◌≤◌, ◌<◌}
+use Rattle.std.proofs.Common.{arith, ltb, length, eq-eqb, lt-ltb, ltb-true}
 use Rattle.std.proofs.Math.Logic.{by_cases}
 use mathlib.Core.List.{Memᴰ}
 use Rattle.std.proofs.Math.Decide.{dec_lt}
 use Rattle.lists.specs.Lists.{flat_map, range, up_from}
 use Rattle.lists.specs.Order.{Distinct}
-use Rattle.lists.proofs.Cases.{by_test, and_left, and_right, and_both}
+use Rattle.lists.proofs.Cases.{and_left, and_right, and_both}
 use Rattle.lists.proofs.Distinct.{distinct_map, distinct_flat, distinct_equal}
 use Rattle.lists.proofs.ListLaws.{any_in, any_out, flat_in, flat_out, map_in, map_out, range_in, range_out, up_in, up_out, up_length}
 use Rattle.lists.proofs.OrderLaws.{length_map, up_distinct}
 use Rattle.lists.proofs.Pieces.{flat_lengths}
-use Rattle.house_layout.specs.Layout.{parties_of, labels_of, records_of, head_of, record_of, permit_kind}
+use Rattle.house_layout.specs.Layout.{parties_of, labels_of, records_of, head_of, record_of, unknown_kind, permit_kind}
 use Rattle.house_layout.specs.Fields.{legal_kind}
 use Rattle.house_layout.specs.declared.record.Record.{Record}
-use Rattle.house_layout.proofs.RecordLaws.{kind_legal}
+use Rattle.house_layout.proofs.KindLaws.{kind_cases, kind_legal}
 use Rattle.house_file.specs.Check.{says, check_of}
-use Rattle.house_file.specs.Meaning.{chain_of, recorded, is_edge, is_permitted, RecordsRight}
+use Rattle.house_file.specs.Meaning.{chain_of, recorded, is_edge, is_unknown, is_permitted, RecordsRight}
 use Rattle.house_file.proofs.FollowLaws.{says_target}
 use Rattle.house_file.proofs.LinkedLaws.{linked_inside, records_right}
-use Rattle.house_file.proofs.WellFormedLaws.{accepted_iff_well_formed}
+use Rattle.house_file.proofs.UnknownLaws.{unknown_no_edge}
+use Rattle.house_file.proofs.WellFormedLaws.{framing, accepted_iff_well_formed}
 use Rattle.rebac.specs.Matter.{pair, IsPair}
 use Rattle.graph.specs.FileMatter.{matter_of}
 use Rattle.graph.proofs.LoadLaws.{accepted_limits}
 use Rattle.canonical.specs.Canonical.{Entry, entry, says_kind}
 use Rattle.canonical.specs.Shape.{InLimits, entry_in}
+use Rattle.canonical.proofs.EntryLaws.{says_edge, says_unknown, says_permit}
 
 -- what party u's records say, and the file's, chain by chain
 abbrev recorded_by : List ℕ → ℕ → List Entry
@@ -130,17 +132,22 @@ pub matter_labels : (f : List ℕ) → (matter_of f).labels ≡ labels_of f
 unfolding matter_of
 matter_labels f = refl
 
--- and what it says
-pub matter_says : (f : List ℕ) (u v k : ℕ) → legal_kind (labels_of f) k ≡ true → says_kind (matter_of f) u v k ≡ recorded f u v k
-unfolding says_kind matter_of is_edge is_permitted
-matter_says f u v k l =
-    by_test (eqb k permit_kind)
-    (λ e. let q : k ≡ permit_kind = eqb-true k permit_kind e in rw (e, q))
-    (λ e. by_test (ltb k (labels_of f)) (λ g. rw (e, g)) (λ g. absurd (true≢false (sym (rw (g, e) at l)))))
-
 module _ (f : List ℕ) (a : check_of f ≡ Ok tt) where
+  -- and what it says
+  pub matter_says : (u v k : ℕ) → legal_kind (labels_of f) k ≡ true → says_kind (matter_of f) u v k ≡ recorded f u v k
+  unfolding matter_of is_edge is_unknown is_permitted
+  matter_says u v k l =
+      let small : labels_of f ≤ 8 = (framing f a).fields.labels.1 in
+      ⊎_elim
+      (λ h. says_edge (matter_of f) u v k (omega arith) ∙ rw (lt-ltb k (labels_of f) h))
+      (λ t. ⊎_elim
+      (λ j. rw j.1.1 (says_unknown (matter_of f) u v j.0 (omega (arith, j.1.0)) ∙ rw (lt-ltb j.0 (labels_of f) j.1.0)))
+      (λ q. rw q (says_permit (matter_of f) u v))
+      t)
+      (kind_cases (labels_of f) k l)
+
   pub accepted_matter : InLimits (matter_of f)
-  unfolding matter_of is_edge is_permitted
+  unfolding matter_of is_edge is_unknown is_permitted
   accepted_matter =
       let w = records_right f ((accepted_iff_well_formed f).0 a) in
       record {
@@ -149,5 +156,10 @@ module _ (f : List ℕ) (a : check_of f ≡ Ok tt) where
           recorded_pair f w u v l (and_right (ltb l (labels_of f)) _ e),
           ltb-true l (labels_of f) (and_left (ltb l (labels_of f)) _ e),
         );
+        unknowns = λ u v l e. (
+          recorded_pair f w u v (unknown_kind l) (and_right (ltb l (labels_of f)) _ e),
+          ltb-true l (labels_of f) (and_left (ltb l (labels_of f)) _ e),
+        );
         permits = λ u v e. recorded_pair f w u v permit_kind e;
+        consistent = λ u v l e. unknown_no_edge f a u v l e;
       }

@@ -8,24 +8,24 @@ use Rattle.lists.proofs.Cases.{by_test, test_same}
 use Rattle.lists.proofs.Distinct.{in_get_or, get_or_in}
 use Rattle.lists.proofs.ListLaws.{any_in, any_out}
 use Rattle.rebac.specs.Matter.{Matter}
-use Rattle.house_layout.specs.Layout.{record_of, permit_kind}
+use Rattle.house_layout.specs.Layout.{record_of, unknown_kind, permit_kind}
 use Rattle.house_layout.specs.Fields.{legal_kind}
 use Rattle.house_layout.specs.declared.record.Record.{Record}
-use Rattle.house_layout.proofs.RecordLaws.{label_legal, permit_legal}
+use Rattle.house_layout.proofs.KindLaws.{label_legal, unknown_legal, permit_legal}
 use Rattle.house_file.specs.Check.{says}
-use Rattle.house_file.specs.Meaning.{chain_of, recorded, is_edge, is_permitted}
+use Rattle.house_file.specs.Meaning.{chain_of, recorded, is_edge, is_unknown, is_permitted}
 use Rattle.house_file.proofs.FollowLaws.{says_target}
 use Rattle.graph.specs.FileMatter.{matter_of}
 use Rattle.canonical.specs.Canonical.{Entry, says_kind, entries_of, first_of, canonical_of}
 use Rattle.canonical.specs.Shape.{InLimits}
 use Rattle.canonical.proofs.LayoutLaws.{no_entry, party_record}
 use Rattle.canonical.proofs.LayoutLaws.{canonical_parties, canonical_labels, canonical_language, canonical_longest}
-use Rattle.canonical.proofs.EntryLaws.{entry_in_lem, entry_out, says_edge, says_permit, says_pair}
+use Rattle.canonical.proofs.EntryLaws.{entry_in_lem, entry_out, says_edge, says_unknown, says_permit, says_pair}
 use Rattle.canonical.proofs.ChainLaws.{chain_at, at_chain}
 
 module _ (d : ℕ) (M : Matter) (i : InLimits M) where
   -- a record of the chain says what its entry does, and each entry has a record
-  record_said : (u v k : ℕ) → u < M.parties → any_of (says (canonical_of d M) v k) (chain_of (canonical_of d M) u) ≡ true
+  pub record_said : (u v k : ℕ) → u < M.parties → any_of (says (canonical_of d M) v k) (chain_of (canonical_of d M) u) ≡ true
       → says_kind M u v k ≡ true
   record_said u v k h s =
       let r = any_out (says (canonical_of d M) v k) (chain_of (canonical_of d M) u) s in
@@ -57,7 +57,7 @@ module _ (d : ℕ) (M : Matter) (i : InLimits M) where
       (λ h. rw (canonical_parties d M, le-ltb u M.parties (omega arith))
       (by_test (says_kind M u v k) (λ s. absurd (omega (arith, (says_pair M i u v k s).first))) (λ s. sym s)))
 
-  -- its relations and permits
+  -- its relations, unknown ones and permits
   pub canonical_edges : (u v l : ℕ) → is_edge (canonical_of d M) u v l ≡ M.edge u v l
   unfolding is_edge
   canonical_edges u v l =
@@ -66,6 +66,16 @@ module _ (d : ℕ) (M : Matter) (i : InLimits M) where
       (canonical_recorded u v l (label_legal M.labels l h) ∙ says_edge M u v l (omega (arith, i.limits.labels.1))))
       (λ h. rw (canonical_labels d M, le-ltb l M.labels (omega arith))
       (by_test (M.edge u v l) (λ s. absurd (omega (arith, (i.edges u v l s).1))) (λ s. sym s)))
+
+  pub canonical_unknowns : (u v l : ℕ) → is_unknown (canonical_of d M) u v l ≡ M.unknown u v l
+  unfolding is_unknown
+  canonical_unknowns u v l =
+      by_cases (dec_lt l M.labels)
+      (λ h. rw (canonical_labels d M, lt-ltb l M.labels h)
+      (canonical_recorded u v (unknown_kind l) (unknown_legal M.labels l h)
+      ∙ says_unknown M u v l (omega (arith, i.limits.labels.1))))
+      (λ h. rw (canonical_labels d M, le-ltb l M.labels (omega arith))
+      (by_test (M.unknown u v l) (λ s. absurd (omega (arith, (i.unknowns u v l s).1))) (λ s. sym s)))
 
   pub canonical_permits : (u v : ℕ) → is_permitted (canonical_of d M) u v ≡ M.permit u v
   unfolding is_permitted
@@ -80,6 +90,7 @@ module _ (d : ℕ) (M : Matter) (i : InLimits M) where
     language = canonical_language d M j;
     longest = canonical_longest d M j;
     edge = λ u v l. canonical_edges u v l j;
+    unknown = λ u v l. canonical_unknowns u v l j;
     permit = λ u v. canonical_permits u v j;
   }
 

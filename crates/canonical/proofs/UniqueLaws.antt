@@ -17,7 +17,7 @@ use Rattle.house_layout.specs.Layout.{edition_of, parties_of, labels_of, records
 use Rattle.house_layout.proofs.LayoutLaws.{size_most, piece_of, owner_apart}
 use Rattle.house_layout.specs.declared.record.Record.{Record}
 use Rattle.house_layout.specs.Fields.{legal_kind}
-use Rattle.house_layout.proofs.RecordLaws.{kind_legal}
+use Rattle.house_layout.proofs.KindLaws.{kind_legal}
 use Rattle.house_file.specs.Check.{check_of}
 use Rattle.house_file.specs.Meaning.{chain_of, recorded, IsChain, RecordsRight, WellFormed}
 use Rattle.house_file.proofs.LinkedLaws.{records_right}
@@ -81,7 +81,7 @@ module _ (f : List ℕ) (a : check_of f ≡ Ok tt) (s : InShape f) where
   -- M says what the file records
   said_recorded : (u v k : ℕ) → legal_kind (labels_of f) k ≡ true → says_kind M u v k ≡ recorded f u v k
   unfolding M
-  said_recorded u v k l = matter_says f u v k l
+  said_recorded u v k l = matter_says f a u v k l
 
   module _ (u : ℕ) (h : u < parties_of f) where
     chain_said : (e : Entry) → Memᴰ e (map (entry_in f u) (chain_of f u)) → Memᴰ e (entries_of M u)

@@ -1,4 +1,4 @@
--- Calls that write a file: what they answer and write. The copy (02, Tickets 1 and 2): an accepted file's matter,
+-- Calls that write a file: what they answer and write. The copy (02, Tickets 1, 2 and 5): an accepted file's matter,
 -- written again in edition 2.
 use Rattle.std.specs.Prelude.{Ok, Err, Result}
 use Rattle.std.specs.Prelude.{ℕ, List, [], ◌∷◌, ◌++◌, length, drop, leb}

@@ -1,15 +1,14 @@
--- The canonical file of a matter, in an edition (02, Tickets 1 and 2): "the same matter with records numbered along
+-- The canonical file of a matter, in an edition (02, Tickets 1, 2 and 5): "the same matter with records numbered along
 -- the chains, party 0 first, each chain by target and then by kind byte".
-use Rattle.std.specs.Prelude.{Option, Some, None}
-use Rattle.std.specs.Prelude.{ℕ, suc, Bool, List, [], ◌∷◌, ◌++◌, map, length, eqb, ltb}
+use Rattle.std.specs.Prelude.{ℕ, suc, ◌-◌, Bool, List, [], ◌∷◌, ◌++◌, map, length, eqb, ltb, Option, Some, None}
 use Rattle.lists.specs.Lists.{pick, filter_by, flat_map, range}
 use Rattle.fields.specs.Numbers.{u16_bytes}
 use Rattle.rebac.specs.Matter.{Matter}
-use Rattle.house_layout.specs.Layout.{owner_in, permit_kind}
+use Rattle.house_layout.specs.Layout.{owner_in, unknown_from, unknown_kind, permit_kind}
 use Rattle.house_layout.specs.declared.header.Header.{Header}
 use Rattle.house_layout.specs.declared.record.Record.{Record}
 
--- what a record says: its owner's relation of this label to the target, or a permit
+-- what a record says: its owner's relation of this label to the target, that it is unknown, or a permit
 pub record Entry : Type 0 where
   pub owner : ℕ
   pub target : ℕ
@@ -18,13 +17,16 @@ pub record Entry : Type 0 where
 abbrev pub entry : ℕ → ℕ → ℕ → Entry
 entry u v k = record { owner = u; target = v; kind = k }
 
--- the kind bytes of a file with so many labels, ascending: the labels, then FF
+-- the kind bytes of a file with so many labels, ascending: the labels, 80 plus them (02, Ticket 5), then FF
 unfoldable pub kind_bytes : ℕ → List ℕ
-kind_bytes labels = range labels ++ (permit_kind ∷ [])
+kind_bytes labels = range labels ++ (map unknown_kind (range labels) ++ (permit_kind ∷ []))
 
 -- M says this kind of the pair (u, v)
 unfoldable pub says_kind : Matter → ℕ → ℕ → ℕ → Bool
-says_kind M u v k = pick (eqb k permit_kind) (M.permit u v) (M.edge u v k)
+says_kind M u v k =
+    pick (eqb k permit_kind) (M.permit u v)
+    (pick (ltb k unknown_from) (M.edge u v k)
+    (M.unknown u v (k - unknown_from)))
 
 -- what M says of the pair (u, v), by kind byte
 unfoldable pub pair_entries : Matter → ℕ → ℕ → List Entry

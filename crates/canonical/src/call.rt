@@ -1,4 +1,4 @@
-// The writer's call (02, Tickets 1 and 2): any bytes and a lent output in.
+// The writer's call (02, Tickets 1, 2 and 5): any bytes and a lent output in.
 ghost use Rattle.std.specs.Prelude.{◌≡◌, length};
 ghost use Rattle.canonical.specs.Calls.{file_reply, file_output, write_call};
 

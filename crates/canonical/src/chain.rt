@@ -53,7 +53,7 @@ pub fn put_pair(out: &mut [u8], chain: Chain, target: usize, mask: u32, number: 
 {
     let kinds = chain.kinds;
     let mut next = number;
-    for place in 0..kinds.labels + 1 {
+    for place in 0..kinds.places() {
         if kinds.says_at(mask, place) {
             let x = Record {
                 target,

@@ -43,13 +43,25 @@ pub fn show_check<W: Write>(file: &[u8], out: &mut W) -> io::Result<()> {
     })
 }
 
-// The labels of each pair of one party, where there are any.
+// The labels of a pair under a name, where there are any.
+fn show_labels<W: Write>(
+    name: &str,
+    u: usize,
+    v: usize,
+    labels: u32,
+    out: &mut W,
+) -> io::Result<()> {
+    if labels != 0 {
+        writeln!(out, "{name} {u} {v} {labels:02X}")?;
+    }
+    Ok(())
+}
+
+// The relations and unknown relations of one party.
 fn show_row<W: Write>(u: usize, row: &masks::Row, out: &mut W) -> io::Result<()> {
     for (v, kinds) in row.masks.iter().enumerate() {
-        let labels = kinds % 256;
-        if labels != 0 {
-            writeln!(out, "relation {u} {v} {labels:02X}")?;
-        }
+        show_labels("relation", u, v, kinds % 256, out)?;
+        show_labels("unknown", u, v, kinds / 256 % 256, out)?;
     }
     Ok(())
 }

@@ -13,7 +13,7 @@ use Rattle.rebac.specs.Existence.{problem_of, verdict_of, mined_list, permits_pa
 use Rattle.rebac.proofs.Conversion.{permits_one, mined_ones}
 use Rattle.house_layout.proofs.Exits.{left_with}
 use Rattle.house_layout.specs.declared.reply.Refusal.TheVariants.{Length, Field, Link, Again, Unreached, Owner, Target, Kind, Repeat}
-use Rattle.house_layout.specs.declared.reply.Refusal.TheVariants.{RuleList, PartyPair, GivenWord, Scratch, Inconvertible, Output}
+use Rattle.house_layout.specs.declared.reply.Refusal.TheVariants.{RuleList, PartyPair, GivenWord, Scratch, Inconvertible, Output, Contrary}
 use Rattle.house_file.specs.Check.{check_of}
 use Rattle.house_file.proofs.FileRefusals.{OfFile, file_refusals}
 use Rattle.house_layout.specs.declared.reply.Refusal.{Refusal}
@@ -136,9 +136,10 @@ pub judged_ok : (a : Archive) (limit : ℕ) (old new : List ℕ) {size : ℕ} (r
 judged_ok a limit old new (Ok j) v h = refl
 judged_ok a limit old new (Err h) v k = never_hindered h.pair h.obstacle k v
 
--- scratch is kept at a refusal that comes from a file: those are 1 to 8 and 15
-no_file : {G : Type 0} (n : ℕ) → 8 < n → n < 15 → (n ≤ 8) ⊎ (n ≡ 15) → G
-no_file n a b h = ⊎_elim (λ e. absurd (omega arith)) (λ e. absurd (omega arith)) h
+-- scratch is kept at a refusal that comes from a file: those are 1 to 8, 15 and 16
+no_file : {G : Type 0} (n : ℕ) → 8 < n → n < 15 → (n ≤ 8) ⊎ ((n ≡ 15) ⊎ (n ≡ 16)) → G
+no_file n a b h =
+    ⊎_elim (λ e. absurd (omega arith)) (λ t. ⊎_elim (λ e. absurd (omega arith)) (λ e. absurd (omega arith)) t) h
 
 kept_at : (x : Refusal) → OfFile x → (old : List ℕ) → mining_scratch (refuses x) old ≡ old
 kept_at Length h old = refl
@@ -156,6 +157,7 @@ kept_at Scratch h old = no_file 12 (omega arith) (omega arith) h
 kept_at Inconvertible h old = no_file 13 (omega arith) (omega arith) h
 kept_at Output h old = no_file 14 (omega arith) (omega arith) h
 kept_at Owner h old = refl
+kept_at Contrary h old = refl
 
 pub file_keeps : (f : List ℕ) (x : Refusal) → check_of f ≡ Err x → (old : List ℕ) → mining_scratch (refuses x) old ≡ old
 file_keeps f x e old = kept_at x (file_refusals f x e) old

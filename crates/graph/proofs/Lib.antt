@@ -1,4 +1,5 @@
 pub mod SymbolLaws
 pub mod LoadLaws
+pub mod UnknownLaws
 pub mod ShownLaws
 pub mod LegalLaws

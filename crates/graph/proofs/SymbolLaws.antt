@@ -1,5 +1,5 @@
 -- The symbols of a pair of parties: by the four kinds of a symbol. Assumes nothing.
-use Rattle.std.proofs.Common.{◌≡◌, refl, ap, Bool, true, false, not, ◌&&◌, ℕ, zero, suc, ◌*◌, ◌/◌}
+use Rattle.std.proofs.Common.{◌≡◌, refl, ap, Bool, true, false, ◌&&◌, ℕ, zero, suc, ◌*◌, ◌/◌}
 use Rattle.std.proofs.Common.{◌%◌, ◌≤◌, ◌<◌, arith, eqb, ltb, lt-ltb, le-ltb, eq-eqb, ne_eqb}
 use Rattle.std.proofs.Math.Logic.{by_cases}
 use Rattle.std.proofs.Math.Decide.{dec_lt}
@@ -8,9 +8,9 @@ use Rattle.lists.proofs.Cases.{by_test, and_false}
 use Rattle.masks.specs.promises.Table.{mask_at}
 use Rattle.masks.specs.declared.Table.{Table}
 use Rattle.rebac.specs.Matter.{Matter}
-use Rattle.rebac.specs.Symbols.{kinds, kind_holds, apart, in_language, holds}
+use Rattle.rebac.specs.Symbols.{kinds, absent_edge, kind_holds, apart, in_language, holds}
 use Rattle.graph.specs.declared.words.WordRule.{WordRule}
-use Rattle.graph.specs.promises.Symbols.{kind_in, symbol_in, Records}
+use Rattle.graph.specs.promises.Symbols.{absent_in, kind_in, symbol_in, Records}
 
 -- the kinds of each language
 pub kinds_0 : (k : ℕ) → k < 4 → eqb k 0 ≡ member k (kinds 0)
@@ -55,12 +55,15 @@ module _ (g out back s : ℕ) where
 
 -- the symbols that hold between two parties of the matter
 module _ (M : Matter) (n : ℕ) (x : WordRule) (k : Table) (r : Records M n x k) (u v : ℕ) where
+  same_absent : (x y l : ℕ) → l < M.labels → absent_in (mask_at k x y) l ≡ absent_edge M x y l
+  same_absent x y l e = rw (r.edges x y l e, r.unknowns x y l e)
+
   same_kind : (l j : ℕ) → l < M.labels → kind_in (mask_at k u v) (mask_at k v u) l j ≡ kind_holds M u v l j
   unfolding kind_holds
   same_kind l zero e = r.edges u v l e
-  same_kind l (suc zero) e = ap not (r.edges u v l e)
+  same_kind l (suc zero) e = same_absent u v l e
   same_kind l (suc (suc zero)) e = r.edges v u l e
-  same_kind l (suc (suc (suc j))) e = ap not (r.edges v u l e)
+  same_kind l (suc (suc (suc j))) e = same_absent v u l e
 
   pub symbols_hold : u < M.parties → v < M.parties → (u ≡ v → ⊥)
       → (s : ℕ) → (ltb s (4 * x.labels) && symbol_in x.language (mask_at k u v) (mask_at k v u) s) ≡ holds M u v s

@@ -3,7 +3,7 @@ use Rattle.std.specs.Prelude.{ℕ, ◌≤◌, List}
 use Rattle.limits.specs.Limits.{most_parties, most_labels, last_language, longest_word}
 use Rattle.rebac.specs.Matter.{Matter}
 use Rattle.house_layout.specs.Layout.{parties_of, labels_of, language_of, longest_of}
-use Rattle.house_file.specs.Meaning.{is_edge, is_permitted}
+use Rattle.house_file.specs.Meaning.{is_edge, is_unknown, is_permitted}
 
 -- the matter of an accepted file
 unfoldable pub matter_of : List ℕ → Matter
@@ -13,6 +13,7 @@ matter_of f = record {
   language = language_of f;
   longest = longest_of f;
   edge = is_edge f;
+  unknown = is_unknown f;
   permit = is_permitted f;
 }
 

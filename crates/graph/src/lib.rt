@@ -1,6 +1,7 @@
 // The enlarged graph of a house file: for each two different parties the set of symbols that hold, as a mask.
 #![tactic(auto)]
 
+mod absent;
 mod archive;
 mod enlarge;
 mod file;

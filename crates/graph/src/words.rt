@@ -2,6 +2,8 @@
 ghost use Rattle.std.specs.Prelude.{◌≤◌};
 ghost use Rattle.limits.specs.Limits.{last_language};
 
+use crate::absent::absent_in;
+
 // What makes a word legal: at most `longest` symbols, each of a kind that the language uses and with a label below `labels`.
 #[derive(Clone, Copy)]
 pub struct WordRule {
@@ -49,7 +51,7 @@ impl WordRule {
         symbols.iter().all(|&s| self.legal_symbol(s))
     }
 
-    // Whether a symbol of the language holds, by the labels out and back.
+    // Whether a symbol of the language holds, by the kinds out and back.
     // Kept: a symbol's kind is a number here, as in `uses_kind`.
     fn symbol_in(self, out: u32, back: u32, s: u32) -> bool
         requires { s < symbol_count }
@@ -60,13 +62,13 @@ impl WordRule {
         self.uses_kind(kind)
             && match kind {
                 0 => masks::has(out, label),
-                1 => !masks::has(out, label),
+                1 => absent_in(out, label),
                 2 => masks::has(back, label),
-                _ => !masks::has(back, label),
+                _ => absent_in(back, label),
             }
     }
 
-    // The symbols that hold, by the labels out and back.
+    // The symbols that hold, by the kinds out and back.
     pub(crate) fn symbols(self, out: u32, back: u32) -> u32
         requires { self.labels ≤ most_labels }
         ensures { (s : ℕ) → test_bit result s ≡ (ltb s (4 * self.labels) && symbol_in self.language out back s) }

@@ -11,7 +11,7 @@ use Rattle.lists.specs.Order.{Distinct}
 use Rattle.lists.proofs.Cases.{both, by_append}
 use Rattle.lists.proofs.ListLaws.{member_in, member_not}
 use Rattle.house_layout.specs.Layout.{parties_of, labels_of, head_of, records_of, record_of}
-use Rattle.house_layout.specs.Fields.{foreign, legal_target, legal_kind}
+use Rattle.house_layout.specs.Fields.{foreign, legal_target, legal_kind, opposite}
 use Rattle.house_file.specs.Check.{Followed, stopped, passed, and_then, follow_chains}
 use Rattle.house_file.specs.Meaning.{chain_of, IsChain}
 use Rattle.house_file.specs.promises.Reading.{chain_followed}
@@ -27,6 +27,8 @@ pub record RightChain (f : List ℕ) (u : ℕ) : Type 0 where
   pub once : Distinct (chain_of f u)
   pub different : (s t : ℕ) → Memᴰ s (chain_of f u) → Memᴰ t (chain_of f u)
       → (record_of f s).target ≡ (record_of f t).target → (record_of f s).kind ≡ (record_of f t).kind → s ≡ t
+  pub consistent : (s t : ℕ) → Memᴰ s (chain_of f u) → Memᴰ t (chain_of f u)
+      → (record_of f s).target ≡ (record_of f t).target → opposite (labels_of f) (record_of f s).kind (record_of f t).kind ≡ false
 
 -- party u's chain followed, after the records `before`
 pub chain_passed : (f : List ℕ) (u : ℕ) (before c : List ℕ) → chain_followed f u before ≡ passed c
@@ -37,7 +39,15 @@ chain_passed f u before c e =
     let r = h.right in (
       h.shape,
       (
-        record { linked = r.linked; owner = r.owner; target = r.target; kind = r.kind; once = r.once; different = r.different },
+        record {
+          linked = r.linked;
+          owner = r.owner;
+          target = r.target;
+          kind = r.kind;
+          once = r.once;
+          different = r.different;
+          consistent = r.consistent;
+        },
         λ s m n. both (member_in s (before ++ []) (rw (append-nil before) n)) (r.fresh s m),
       ),
     )
@@ -54,8 +64,10 @@ passed_chain f u before h apart =
       kind = h.kind;
       once = h.once;
       different = h.different;
+      consistent = h.consistent;
       fresh = λ s m. rw (append-nil before) (member_not s before (apart s m));
       new = λ s m. refl;
+      agreed = λ s m. refl;
     })
 
 -- the chains of m parties from u on, one after another

@@ -1,4 +1,4 @@
--- Only the refusals 1 to 8 and 15 come from a file: each test of the check gives one of them, and following chains
+-- Only the refusals 1 to 8, 15 and 16 come from a file: each test of the check gives one of them, and following chains
 -- passes on what it met.
 use Rattle.std.proofs.Common.{◌≡◌, refl, ◌⊎◌, inl, inr, Bool, true, false, not, List, [], ◌∷◌, ◌++◌}
 use Rattle.std.proofs.Common.{Result, Ok, Err, ℕ, zero, suc, ◌≤◌, arith, eqb, ltb, length}
@@ -9,13 +9,14 @@ use Rattle.house_layout.specs.Reply.{number_of, refuse}
 use Rattle.house_layout.specs.Fields.{fields_in_range, foreign, legal_target, legal_kind, judge_record}
 use Rattle.house_layout.specs.declared.record.Record.{Record}
 use Rattle.house_layout.specs.declared.reply.Refusal.{Refusal}
-use Rattle.house_layout.specs.declared.reply.Refusal.TheVariants.{Length, Field, Link, Again, Unreached, Owner, Target, Kind, Repeat}
+use Rattle.house_layout.specs.declared.reply.Refusal.TheVariants.{Length, Field, Link, Again, Unreached}
+use Rattle.house_layout.specs.declared.reply.Refusal.TheVariants.{Owner, Target, Kind, Repeat, Contrary}
 use Rattle.house_file.specs.Check.{record_check, Followed, stopped, passed, if_accepted, enough_turns, follow_chain}
 use Rattle.house_file.specs.Check.{and_then, follow_chains, reached_all, chains_check, check_of}
 
 -- a refusal of a file; a reply, or what following gave, that refuses by one of them at the most
 abbrev pub OfFile : Refusal → Type 0
-OfFile x = (number_of x ≤ 8) ⊎ (number_of x ≡ 15)
+OfFile x = (number_of x ≤ 8) ⊎ ((number_of x ≡ 15) ⊎ (number_of x ≡ 16))
 
 abbrev FromFile : Result ⊤ Refusal → Type 0
 FromFile (Ok _) = Unit {0}
@@ -33,14 +34,15 @@ pick_from : (b : Bool) (v w : Followed) → FollowedFromFile v → FollowedFromF
 pick_from true v w h k = h
 pick_from false v w h k = k
 
-judge_from_lem : (n l u : ℕ) (r : Record) (again repeat : Bool) → FromFile (judge_record n l u r again repeat)
+judge_from_lem : (n l u : ℕ) (r : Record) (again repeat contrary : Bool) → FromFile (judge_record n l u r again repeat contrary)
 unfolding judge_record
-judge_from_lem n l u r again repeat =
+judge_from_lem n l u r again repeat contrary =
     refuse_from again Again _ (inl (omega arith))
-    (refuse_from (foreign u r.owner) Owner _ (inr refl)
+    (refuse_from (foreign u r.owner) Owner _ (inr (inl refl))
     (refuse_from (not (legal_target n u r.target)) Target _ (inl (omega arith))
     (refuse_from (not (legal_kind l r.kind)) Kind _ (inl (omega arith))
-    (refuse_from repeat Repeat _ (inl (omega arith)) tt))))
+    (refuse_from repeat Repeat _ (inl (omega arith))
+    (refuse_from contrary Contrary _ (inr (inr refl)) tt)))))
 
 accepted_from : (c : Result ⊤ Refusal) (w : Followed) → FromFile c → FollowedFromFile w → FollowedFromFile (if_accepted c w)
 accepted_from (Ok _) w h k = k
@@ -52,7 +54,7 @@ chain_from_lem f u zero before earlier r = inl (omega arith)
 chain_from_lem f u (suc k) before earlier r =
     pick_from (eqb r 0) _ _ tt
     (accepted_from (refuse (ltb (records_of f) r) Link (record_check f u before earlier r)) _
-    (refuse_from (ltb (records_of f) r) Link _ (inl (omega arith)) (judge_from_lem _ _ _ _ _ _))
+    (refuse_from (ltb (records_of f) r) Link _ (inl (omega arith)) (judge_from_lem _ _ _ _ _ _ _))
     (chain_from_lem f u k before (earlier ++ (r ∷ [])) (record_of f r).next))
 
 then_from : (w : Followed) (g : List ℕ → Followed) → FollowedFromFile w → ((c : List ℕ) → FollowedFromFile (g c))

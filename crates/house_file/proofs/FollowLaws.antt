@@ -8,11 +8,12 @@ use Rattle.std.specs.Prelude.{⊤}
 use Rattle.house_layout.specs.declared.reply.Refusal.{Refusal}
 use Rattle.lists.specs.Lists.{any_of, member}
 use Rattle.lists.specs.Order.{Distinct}
-use Rattle.lists.proofs.Cases.{by_test, by_mem, both, clash, or_left, or_right}
+use Rattle.lists.proofs.Cases.{by_test, by_mem, both, clash, or_left, or_right, and_false}
 use Rattle.house_layout.specs.Layout.{parties_of, labels_of, records_of, record_of}
-use Rattle.house_layout.specs.Fields.{foreign, legal_target, legal_kind}
-use Rattle.house_file.specs.Check.{record_check, says, Followed, passed, if_accepted, follow_chain}
+use Rattle.house_layout.specs.Fields.{foreign, legal_target, legal_kind, opposite}
+use Rattle.house_file.specs.Check.{record_check, says, contradicts, Followed, passed, if_accepted, follow_chain}
 use Rattle.house_file.specs.Meaning.{chain_from, IsChain}
+use Rattle.house_layout.proofs.KindLaws.{opposite_swap, opposite_self}
 use Rattle.house_layout.proofs.RecordLaws.{judge_accepts, judge_passed}
 use Rattle.house_file.proofs.ChainLaws.{any_more, any_yes, any_no, unlike}
 
@@ -24,10 +25,9 @@ any_last : {A : Type 0} (p : A → Bool) (l : List A) (x : A) → any_of p (l ++
 any_last p l x e = or_right (any_of p l) (p x) (sym (any_more p l x) ∙ e)
 
 -- the same target and kind
-pub says_same : (f : List ℕ) (r s : ℕ) → (record_of f r).target ≡ (record_of f s).target → (record_of f r).kind ≡ (record_of f s).kind
-    → says f (record_of f s).target (record_of f s).kind r ≡ true
+pub says_in : (f : List ℕ) (t k r : ℕ) → (record_of f r).target ≡ t → (record_of f r).kind ≡ k → says f t k r ≡ true
 unfolding says
-says_same f r s t k = rw (eq-eqb _ _ t, eq-eqb _ _ k)
+says_in f t k r p q = rw (eq-eqb _ _ p, eq-eqb _ _ q)
 
 pub says_target : (f : List ℕ) (t k r : ℕ) → says f t k r ≡ true → ((record_of f r).target ≡ t) × ((record_of f r).kind ≡ k)
 unfolding says
@@ -35,6 +35,22 @@ says_target f t k r e =
     by_test (eqb (record_of f r).target t)
     (λ q. (eqb-true _ _ q, eqb-true _ _ (rw q at e)))
     (λ q. clash (sym (rw q at e)))
+
+-- the same target, and kinds that are each other's opposite
+agrees : (f : List ℕ) (r s : ℕ) → (record_of f r).target ≡ (record_of f s).target
+    → contradicts f (record_of f s).target (record_of f s).kind r ≡ false
+    → opposite (labels_of f) (record_of f s).kind (record_of f r).kind ≡ false
+unfolding contradicts
+agrees f r s t e = rw (eq-eqb (record_of f r).target (record_of f s).target t) at e
+
+agreeing : (f : List ℕ) (r s : ℕ)
+    → ((record_of f s).target ≡ (record_of f r).target → opposite (labels_of f) (record_of f s).kind (record_of f r).kind ≡ false)
+    → contradicts f (record_of f s).target (record_of f s).kind r ≡ false
+unfolding contradicts
+agreeing f r s h =
+    by_test (eqb (record_of f r).target (record_of f s).target)
+    (λ q. and_false (eqb (record_of f r).target (record_of f s).target) (h (sym (eqb-true _ _ q))))
+    (λ q. rw q)
 
 -- a chain ends at 0, and at any other number has that record and what follows it
 pub chain_end : (f : List ℕ) (k r : ℕ) → r ≡ 0 → chain_from f k r ≡ []
@@ -67,6 +83,9 @@ pub record Right (f : List ℕ) (u : ℕ) (before earlier : List ℕ) (r : ℕ) 
   pub new : (s : ℕ) → Memᴰ s c → any_of (says f (record_of f s).target (record_of f s).kind) earlier ≡ false
   pub different : (s t : ℕ) → Memᴰ s c → Memᴰ t c
       → (record_of f s).target ≡ (record_of f t).target → (record_of f s).kind ≡ (record_of f t).kind → s ≡ t
+  pub agreed : (s : ℕ) → Memᴰ s c → any_of (contradicts f (record_of f s).target (record_of f s).kind) earlier ≡ false
+  pub consistent : (s t : ℕ) → Memᴰ s c → Memᴰ t c
+      → (record_of f s).target ≡ (record_of f t).target → opposite (labels_of f) (record_of f s).kind (record_of f t).kind ≡ false
 
 nothing : {G : Type 0} {s : ℕ} → Memᴰ s [] → G
 nothing m = absurd (Memᴰ.not-nil m)
@@ -81,6 +100,8 @@ right_end f u before earlier r e = record {
   once = tt;
   new = λ s m. nothing m;
   different = λ s t m n p q. nothing m;
+  agreed = λ s m. nothing m;
+  consistent = λ s t m n p. nothing m;
 }
 
 module _ (f : List ℕ) (u : ℕ) (before earlier : List ℕ) (r : ℕ) (c : List ℕ) (z : r ≡ 0 → ⊥) (l : r ≤ records_of f) where
@@ -93,7 +114,7 @@ module _ (f : List ℕ) (u : ℕ) (before earlier : List ℕ) (r : ℕ) (c : Lis
       → Right f u before earlier r (r ∷ c)
   unfolding record_check
   right_cons e h =
-      let p = judge_passed (parties_of f) (labels_of f) u (record_of f r) _ _ e in
+      let p = judge_passed (parties_of f) (labels_of f) u (record_of f r) _ _ _ e in
       record {
         linked = (refl, (omega (arith, z), (l, h.linked)));
         owner = λ s m. by_mem m (λ q. rw q p.owner) (h.owner s);
@@ -106,12 +127,24 @@ module _ (f : List ℕ) (u : ℕ) (before earlier : List ℕ) (r : ℕ) (c : Lis
             (λ n. any_left (says f (record_of f s).target (record_of f s).kind) earlier r (h.new s n));
         different = λ s t m n a b. by_mem m
             (λ q. by_mem n (λ o. q ∙ sym o)
-            (λ n'. both (says_same f r t (rw q at a) (rw q at b))
+            (λ n'. both (says_in f _ _ r (rw q at a) (rw q at b))
             (any_last (says f (record_of f t).target (record_of f t).kind) earlier r (h.new t n'))))
             (λ m'. by_mem n
-            (λ o. both (says_same f r s (sym (rw o at a)) (sym (rw o at b)))
+            (λ o. both (says_in f _ _ r (sym (rw o at a)) (sym (rw o at b)))
             (any_last (says f (record_of f s).target (record_of f s).kind) earlier r (h.new s m')))
             (λ n'. h.different s t m' n' a b));
+        agreed = λ s m. by_mem m
+            (λ q. rw q p.consistent)
+            (λ n. any_left (contradicts f (record_of f s).target (record_of f s).kind) earlier r (h.agreed s n));
+        consistent = λ s t m n a. by_mem m
+            (λ q. by_mem n
+            (λ o. rw (q, o) (opposite_self (labels_of f) (record_of f r).kind))
+            (λ n'. rw q (opposite_swap (labels_of f) (record_of f r).kind (record_of f t).kind
+            ∙ agrees f r t (rw q at a) (any_last (contradicts f (record_of f t).target (record_of f t).kind) earlier r (h.agreed t n')))))
+            (λ m'. by_mem n
+            (λ o. rw o (agrees f r s (sym (rw o at a))
+            (any_last (contradicts f (record_of f s).target (record_of f s).kind) earlier r (h.agreed s m'))))
+            (λ n'. h.consistent s t m' n' a));
       }
 
   -- and off again
@@ -130,14 +163,19 @@ module _ (f : List ℕ) (u : ℕ) (before earlier : List ℕ) (r : ℕ) (c : Lis
             (λ q. let w = says_target f _ _ r q in absurd (other s m (sym (h.different r s here (Memᴰ.tail m) w.0 w.1))))
             (λ q. any_no (says f (record_of f s).target (record_of f s).kind) earlier r q ∙ h.new s (Memᴰ.tail m));
         different = λ s t m n a b. h.different s t (Memᴰ.tail m) (Memᴰ.tail n) a b;
+        agreed = λ s m.
+            any_no (contradicts f (record_of f s).target (record_of f s).kind) earlier r
+            (agreeing f r s (h.consistent s r (Memᴰ.tail m) here))
+            ∙ h.agreed s (Memᴰ.tail m);
+        consistent = λ s t m n. h.consistent s t (Memᴰ.tail m) (Memᴰ.tail n);
       }
 
   right_accepts : Right f u before earlier r (r ∷ c) → record_check f u before earlier r ≡ Ok tt
   unfolding record_check
   right_accepts h =
       let here : Memᴰ r (r ∷ c) = Memᴰ.head refl in
-      judge_accepts (parties_of f) (labels_of f) u (record_of f r) _ _
-      (h.fresh r here) (h.owner r here) (h.target r here) (h.kind r here) (h.new r here)
+      judge_accepts (parties_of f) (labels_of f) u (record_of f r) _ _ _
+      (h.fresh r here) (h.owner r here) (h.target r here) (h.kind r here) (h.new r here) (h.agreed r here)
 
 -- where following passes, each record was accepted
 accepted_passed : (x : Result ⊤ Refusal) (w : Followed) {c : List ℕ} → if_accepted x w ≡ passed c → (x ≡ Ok tt) × (w ≡ passed c)

@@ -8,3 +8,4 @@ pub mod ReachedLaws
 pub mod DecodeLaws
 pub mod FileRefusals
 pub mod OwnerLaws
+pub mod UnknownLaws

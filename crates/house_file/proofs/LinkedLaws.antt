@@ -55,4 +55,5 @@ records_right f w =
       target = λ u r l m. h.target u r l (rw (same u l) at m);
       kind = λ u r l m. h.kind u r l (rw (same u l) at m);
       different = λ u r s l m n. h.different u r s l (rw (same u l) at m) (rw (same u l) at n);
+      consistent = λ u r s k l m n. h.consistent u r s k l (rw (same u l) at m) (rw (same u l) at n);
     }

@@ -1,22 +1,24 @@
 -- Accepted means well formed: the header's tests one by one, then all chains followed. Assumes nothing.
-use Rattle.std.proofs.Common.{◌≡◌, refl, ap, ◌∙◌, Bool, true, false, not, ◌↔◌, List, [], Result, Ok, Err, ℕ, ◌≤◌, ◌<◌, arith}
+use Rattle.std.proofs.Common.{◌≡◌, refl, sym, ap, ◌∙◌, Bool, true, false, not, ◌↔◌, ⊎_elim, List, [], Result, Ok, Err, ℕ, ◌≤◌, ◌<◌, arith}
 use Rattle.std.proofs.Common.{length, eqb, ltb, leb, eq-eqb, ne_eqb, eqb-true, le-leb, leb-true, lt-ltb, le-ltb, ltb-false}
 use Rattle.std.proofs.lemmas.Bool.{not-false}
 use mathlib.Core.List.Memᴰ
 use mathlib.Core.List.{Memᴰ}
 use Rattle.std.specs.Prelude.{⊤}
 use Rattle.lists.specs.Lists.{all_of, member, up_from}
-use Rattle.lists.proofs.Cases.{and_left, and_right, and_both}
+use Rattle.lists.proofs.Cases.{by_test, both, and_left, and_right, and_both}
 use Rattle.lists.proofs.ListLaws.{all_in, all_of_lem, up_in, up_out, member_in, member_out}
 use Rattle.fields.specs.Numbers.{byte_at}
 use Rattle.house_layout.specs.Layout.{edition_of, parties_of, labels_of, language_of, longest_of, records_of, size_of, record_of}
+use Rattle.house_layout.specs.Layout.{unknown_kind}
 use Rattle.house_layout.specs.Reply.{refuse}
-use Rattle.house_layout.specs.Fields.{within, fields_in_range}
+use Rattle.house_layout.specs.Fields.{within, fields_in_range, opposite}
 use Rattle.house_file.specs.Check.{Followed, stopped, passed, follow_chains, reached_all, chains_check, check_of}
 use Rattle.house_file.specs.Meaning.{chain_of, FieldsRight, WellFormed}
 use Rattle.house_layout.specs.declared.reply.Refusal.{Refusal}
 use Rattle.house_layout.specs.declared.reply.Refusal.TheVariants.{Length, Field, Unreached}
-use Rattle.house_layout.proofs.RecordLaws.{owner_is_own, not_foreign, target_below, target_other, target_legal, kind_cases, kind_legal}
+use Rattle.house_layout.proofs.KindLaws.{kind_cases, kind_legal, opposite_in, opposite_out}
+use Rattle.house_layout.proofs.RecordLaws.{owner_is_own, not_foreign, target_below, target_other, target_legal}
 use Rattle.house_file.proofs.ChainsLaws.{chains_from, chains_in, chains_out, follows_passed, passed_follows}
 use Rattle.house_file.proofs.LinkedLaws.{records_right}
 
@@ -143,6 +145,9 @@ well_formed f e =
             (target_below _ u _ t, target_other (parties_of f) u _ t);
         kind = λ u r l m. kind_cases (labels_of f) (record_of f r).kind ((h.chain u (omega arith) (omega arith)).kind r m);
         different = λ u r s l. (h.chain u (omega arith) (omega arith)).different r s;
+        consistent = λ u r s k l m n t b p q.
+            both (rw (p, q) (opposite_in (labels_of f) k (unknown_kind k) b refl))
+            ((h.chain u (omega arith) (omega arith)).consistent r s m n t);
       };
     }
 
@@ -161,6 +166,12 @@ accepted f w =
         kind = λ s m. kind_legal (labels_of f) (record_of f s).kind (h.kind v s (omega arith) m);
         once = h.once v (omega arith);
         different = λ s t. h.different v s t (omega arith);
+        consistent = λ s t m n e. by_test (opposite (labels_of f) (record_of f s).kind (record_of f t).kind)
+            (λ q. ⊎_elim
+            (λ o. absurd (h.consistent v s t (record_of f s).kind (omega arith) m n e o.0 refl o.1))
+            (λ o. absurd (h.consistent v t s (record_of f t).kind (omega arith) n m (sym e) o.0 refl o.1))
+            (opposite_out (labels_of f) (record_of f s).kind (record_of f t).kind q))
+            (λ q. q);
       };
       fresh = λ v s a b m n. Memᴰ.not-nil n;
       apart = λ v w s a b d m n. h.apart v w s b (omega arith) m n;

@@ -1,9 +1,9 @@
--- The check of a house file: 01's order of checks and its refusals 1 to 8; 02's refusal 15 stands between 4 and 6.
+-- The check of a house file: 01's order of checks and its refusals 1 to 8; 02's refusal 15 stands between 4 and 6, and 16 after 8.
 use Rattle.std.specs.Prelude.{ℕ, zero, suc, Bool, ⊤, Result, Ok, Err, not, ◌&&◌, List, [], ◌∷◌, ◌++◌, length, eqb, ltb}
 use Rattle.lists.specs.Lists.{pick, all_of, any_of, member, up_from}
 use Rattle.house_layout.specs.Layout.{parties_of, labels_of, records_of, header_size, size_of, head_of, record_of}
 use Rattle.house_layout.specs.Reply.{refuse}
-use Rattle.house_layout.specs.Fields.{fields_in_range, judge_record}
+use Rattle.house_layout.specs.Fields.{fields_in_range, opposite, judge_record}
 use Rattle.house_layout.specs.declared.reply.Refusal.{Refusal}
 use Rattle.house_layout.specs.declared.reply.Refusal.TheVariants.{Length, Field, Link, Again, Unreached}
 
@@ -11,13 +11,18 @@ use Rattle.house_layout.specs.declared.reply.Refusal.TheVariants.{Length, Field,
 unfoldable pub says : List ℕ → ℕ → ℕ → ℕ → Bool
 says f t k s = eqb (record_of f s).target t && eqb (record_of f s).kind k
 
--- the checks 4, 15, 6, 7, 8 of record r of party u's chain. `before`: the records of the chains of lower parties;
+-- record s has this target and this kind's label, one known and one unknown
+unfoldable pub contradicts : List ℕ → ℕ → ℕ → ℕ → Bool
+contradicts f t k s = eqb (record_of f s).target t && opposite (labels_of f) k (record_of f s).kind
+
+-- the checks 4, 15, 6, 7, 8, 16 of record r of party u's chain. `before`: the records of the chains of lower parties;
 -- `earlier`: those of this chain
 unfoldable pub record_check : List ℕ → ℕ → List ℕ → List ℕ → ℕ → Result ⊤ Refusal
 record_check f u before earlier r =
     judge_record (parties_of f) (labels_of f) u (record_of f r)
     (member r (before ++ earlier))
     (any_of (says f (record_of f r).target (record_of f r).kind) earlier)
+    (any_of (contradicts f (record_of f r).target (record_of f r).kind) earlier)
 
 -- what following chains gives: a refusal, or the numbers of the records passed, in order
 pub data Followed : Type 0 where

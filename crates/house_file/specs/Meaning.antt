@@ -1,12 +1,12 @@
 -- What a house file says, by the records of each party's chain; and what it is to be well formed, in plain terms.
-use Rattle.std.specs.Prelude.{ℕ, zero, suc, ◌≤◌, ◌<◌, ◌≡◌, ◌⊎◌, Bool, Some, ◌&&◌, ◌||◌, length, eqb, ltb, List, [], ◌∷◌}
+use Rattle.std.specs.Prelude.{ℕ, zero, suc, ◌≤◌, ◌<◌, ◌≡◌, Bool, Some, ◌&&◌, ◌||◌, length, eqb, ltb, List, [], ◌∷◌}
 use mathlib.Core.List.{Memᴰ}
 use Rattle.lists.specs.Lists.{any_of, pick}
 use Rattle.lists.specs.Order.{Distinct}
 use Rattle.limits.specs.Limits.{most_parties, most_labels, last_language, longest_word, most_records}
 use Rattle.fields.specs.Numbers.{byte_at}
 use Rattle.house_layout.specs.Layout.{last_edition, edition_of, parties_of, labels_of, language_of, longest_of, records_of}
-use Rattle.house_layout.specs.Layout.{header_size, size_of, head_of, record_of, permit_kind}
+use Rattle.house_layout.specs.Layout.{header_size, size_of, head_of, record_of, unknown_kind, permit_kind, LegalKind}
 use Rattle.house_file.specs.Check.{says}
 
 -- the records from r on, as far as each number names one
@@ -25,6 +25,17 @@ recorded f u v k = ltb u (parties_of f) && any_of (says f v k) (chain_of f u)
 -- (u, v, label) is an edge
 unfoldable pub is_edge : List ℕ → ℕ → ℕ → ℕ → Bool
 is_edge f u v l = ltb l (labels_of f) && recorded f u v l
+
+-- nobody knows whether (u, v, label) is an edge (02, Ticket 5)
+unfoldable pub is_unknown : List ℕ → ℕ → ℕ → ℕ → Bool
+is_unknown f u v l = ltb l (labels_of f) && recorded f u v (unknown_kind l)
+
+-- record r does not call a relation unknown; no record of a chain does
+abbrev pub KnownKind : List ℕ → ℕ → Type 0
+KnownKind f r = (l : ℕ) → l < labels_of f → (record_of f r).kind ≡ unknown_kind l → ⊥
+
+abbrev pub OnlyKnown : List ℕ → Type 0
+OnlyKnown f = (u r : ℕ) → u < parties_of f → Memᴰ r (chain_of f u) → KnownKind f r
 
 -- (u, v) is permitted
 unfoldable pub is_permitted : List ℕ → ℕ → ℕ → Bool
@@ -62,10 +73,14 @@ pub record RecordsRight (f : List ℕ) (chain : ℕ → List ℕ) : Type 0 where
   pub target : (u r : ℕ) → u < parties_of f → Memᴰ r (chain u)
       → ((record_of f r).target < parties_of f) × ((record_of f r).target ≡ u → ⊥)
   pub kind : (u r : ℕ) → u < parties_of f → Memᴰ r (chain u)
-      → ((record_of f r).kind < labels_of f) ⊎ ((record_of f r).kind ≡ permit_kind)
+      → LegalKind (labels_of f) (record_of f r).kind
   -- no two records of a chain have both target and kind equal
   pub different : (u r s : ℕ) → u < parties_of f → Memᴰ r (chain u) → Memᴰ s (chain u)
       → (record_of f r).target ≡ (record_of f s).target → (record_of f r).kind ≡ (record_of f s).kind → r ≡ s
+  -- nor target and label equal, one known and one unknown (02, Ticket 5)
+  pub consistent : (u r s l : ℕ) → u < parties_of f → Memᴰ r (chain u) → Memᴰ s (chain u)
+      → (record_of f r).target ≡ (record_of f s).target → l < labels_of f
+      → (record_of f r).kind ≡ l → (record_of f s).kind ≡ unknown_kind l → ⊥
 
 pub record WellFormed (f : List ℕ) : Type 0 where
   pub long : header_size ≤ length f

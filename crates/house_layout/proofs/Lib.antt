@@ -1,4 +1,5 @@
 pub mod RefusalNumbers
+pub mod KindLaws
 pub mod RecordLaws
 pub mod LayoutLaws
 pub mod Exits

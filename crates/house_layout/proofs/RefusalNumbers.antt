@@ -1,4 +1,4 @@
--- A refusal's number says which it is, and is at most 15: each of the fifteen by computing. So a reply is known by
+-- A refusal's number says which it is, and is at most 16: each of the sixteen by computing. So a reply is known by
 -- its number and values. Assumes nothing.
 use Rattle.std.proofs.Common.{◌≡◌, refl, sym, ap, ◌∙◌, ℕ, ◌≤◌, arith, eqb, Result, Ok, Err}
 use Rattle.std.specs.Prelude.{⊤}
@@ -7,7 +7,7 @@ use Rattle.house_layout.specs.Reply.{number_of, refusal, said_check}
 use Rattle.house_layout.specs.declared.reply.Refusal.{Refusal}
 use Rattle.house_layout.specs.declared.reply.Refusal.TheVariants.{Length, Field, Link, Again, Unreached, Target, Kind, Repeat}
 use Rattle.house_layout.specs.declared.reply.Refusal.TheVariants.{RuleList, PartyPair, GivenWord, Scratch, Inconvertible}
-use Rattle.house_layout.specs.declared.reply.Refusal.TheVariants.{Output, Owner}
+use Rattle.house_layout.specs.declared.reply.Refusal.TheVariants.{Output, Owner, Contrary}
 
 -- the refusal of a number
 refusal_of : ℕ → Refusal
@@ -25,9 +25,10 @@ refusal_of n =
     (pick (eqb n 11) GivenWord
     (pick (eqb n 12) Scratch
     (pick (eqb n 13) Inconvertible
-    (pick (eqb n 14) Output Owner)))))))))))))
+    (pick (eqb n 14) Output
+    (pick (eqb n 15) Owner Contrary))))))))))))))
 
-refusal_number : (x : Refusal) → (refusal_of (number_of x) ≡ x) × (number_of x ≤ 15)
+refusal_number : (x : Refusal) → (refusal_of (number_of x) ≡ x) × (number_of x ≤ 16)
 unfolding refusal_of
 refusal_number Length = (refl, omega arith)
 refusal_number Field = (refl, omega arith)
@@ -44,11 +45,12 @@ refusal_number Scratch = (refl, omega arith)
 refusal_number Inconvertible = (refl, omega arith)
 refusal_number Output = (refl, omega arith)
 refusal_number Owner = (refl, omega arith)
+refusal_number Contrary = (refl, omega arith)
 
 pub number_apart : (x y : Refusal) → number_of x ≡ number_of y → x ≡ y
 number_apart x y e = sym (refusal_number x).0 ∙ ap refusal_of e ∙ (refusal_number y).0
 
-pub number_small : (x : Refusal) → number_of x ≤ 15
+pub number_small : (x : Refusal) → number_of x ≤ 16
 number_small x = (refusal_number x).1
 
 -- equal numbers and values mean equal replies; for every call's reply, by its cases

@@ -1,6 +1,6 @@
 -- Where the fields of a house file stand (01, "The house file"; 02, Ticket 2: edition 2).
 -- Only `record_size` and `owner_in` know the editions apart; every place and length is by them.
-use Rattle.std.specs.Prelude.{ℕ, ◌+◌, ◌*◌, ◌-◌, List, Option, Some, None, eqb}
+use Rattle.std.specs.Prelude.{ℕ, ◌+◌, ◌*◌, ◌-◌, ◌<◌, ◌≡◌, ◌⊎◌, List, Option, Some, None, eqb}
 use Rattle.lists.specs.Lists.{pick}
 use Rattle.limits.specs.Limits.{most_parties, most_records}
 use Rattle.fields.specs.Numbers.{byte_at, u16_at}
@@ -98,6 +98,17 @@ record_of f r = record {
   owner = owner_in (edition_of f) (byte_at f (place_of f r + 4));
 }
 
--- the kind byte of a permit; every other legal kind is a label
+-- 02, Ticket 5: "A kind byte of 80 plus label (hexadecimal) now says that this relation to the target is unknown"
+abbrev pub unknown_from : ℕ
+unknown_from = 128
+
+abbrev pub unknown_kind : ℕ → ℕ
+unknown_kind label = unknown_from + label
+
+-- the kind byte of a permit
 abbrev pub permit_kind : ℕ
 permit_kind = 255
+
+-- the legal kind bytes: a label below L, 80 plus such a label, a permit's
+abbrev pub LegalKind : ℕ → ℕ → Type 0
+LegalKind labels k = (k < labels) ⊎ (((l : ℕ) × ((l < labels) × (k ≡ unknown_kind l))) ⊎ (k ≡ permit_kind))

@@ -3,9 +3,9 @@ use Rattle.std.specs.Prelude.{ℕ, Bool, true, false, ⊤, List, [], Result, Ok,
 use Rattle.house_layout.specs.declared.reply.Refusal.{Refusal}
 use Rattle.house_layout.specs.declared.reply.Refusal.TheVariants.{Length, Field, Link, Again, Unreached, Target, Kind, Repeat}
 use Rattle.house_layout.specs.declared.reply.Refusal.TheVariants.{RuleList, PartyPair, GivenWord, Scratch, Inconvertible}
-use Rattle.house_layout.specs.declared.reply.Refusal.TheVariants.{Output, Owner}
+use Rattle.house_layout.specs.declared.reply.Refusal.TheVariants.{Output, Owner, Contrary}
 
--- 01's number of a refusal ("Who can make a call refuse"); 15 is Ticket 2's of 02
+-- 01's number of a refusal ("Who can make a call refuse"); 15 is Ticket 2's of 02, 16 Ticket 5's
 abbrev pub number_of : Refusal → ℕ
 number_of Length = 1
 number_of Field = 2
@@ -22,6 +22,7 @@ number_of Scratch = 12
 number_of Inconvertible = 13
 number_of Output = 14
 number_of Owner = 15
+number_of Contrary = 16
 
 -- 01: "Where an answer is an enum, a definition gives this paper's number and values for each of its cases": a refusal's number, or an
 -- answer's values. Each call's reply has such a definition; equal ones mean equal replies.

@@ -9,5 +9,7 @@ pub use header::{
     HEAD_SIZE, HEADER_SIZE, Header, LONGEST_FILE, OWNED_RECORD, fields_in_range, read_header,
     record_size,
 };
-pub use record::{PERMIT_BIT, PERMIT_KIND, Record, bit_of, check_record, read_record};
+pub use record::{
+    PERMIT_BIT, PERMIT_KIND, Record, UNKNOWN_BIT, UNKNOWN_FROM, bit_of, check_record, read_record,
+};
 pub use reply::Refusal;

@@ -7,14 +7,18 @@ ghost use Rattle.fields.specs.Numbers.{byte_at};
 ghost use Rattle.house_layout.specs.Layout.{record_size, owner_in, record_of};
 ghost use Rattle.house_layout.specs.promises.Places.{RecordThere};
 ghost use Rattle.house_layout.specs.Fields.{foreign, legal_target, legal_kind, judge_record};
-ghost use Rattle.house_layout.specs.promises.Kinds.{bit_of};
+ghost use Rattle.house_layout.specs.promises.Kinds.{bit_of, opposite_kind, contrary_in};
 
 use crate::header::{HEAD_SIZE, HEADER_SIZE, Header, record_size};
 use crate::reply::Refusal;
 use fields::u16_at;
 use masks::Row;
 
-// The kind byte of a permit, and a permit's place in a mask of kinds.
+// The kind bytes of unknown label 0 and of a permit, and their places in a mask of kinds.
+pub const UNKNOWN_FROM: usize = 128;
+
+pub const UNKNOWN_BIT: u32 = 8;
+
 pub const PERMIT_KIND: usize = 255;
 
 pub const PERMIT_BIT: u32 = 31;
@@ -59,15 +63,18 @@ pub fn read_record(file: &[u8], h: Header, r: usize) -> Record
 }
 
 // The place of a kind in a mask of kinds.
-// Kept: a kind byte is a number, 255 for a permit, in the file and in the definitions; a conversion that has a `requires` is a function.
+// Kept: a kind byte is a number, 128 and up for an unknown relation, 255 for a permit, in the file and in the definitions; a conversion
+// that has a `requires` is a function.
 pub fn bit_of(kind: usize) -> u32
     requires { kind < 256 }
     ensures { result ≡ bit_of kind }
 {
     if kind == PERMIT_KIND {
         PERMIT_BIT
-    } else {
+    } else if kind < UNKNOWN_FROM {
         kind as u32
+    } else {
+        UNKNOWN_BIT + (kind - UNKNOWN_FROM) as u32
     }
 }
 
@@ -85,19 +92,32 @@ fn legal_target(parties: usize, u: usize, target: usize) -> bool
 
 // Kept: a kind stays a number after this test too: masks and definitions compute with it.
 fn legal_kind(labels: usize, kind: usize) -> bool
+    requires { labels ≤ most_labels }
     ensures { result ≡ legal_kind labels kind }
 {
-    kind < labels || kind == PERMIT_KIND
+    kind < labels || (UNKNOWN_FROM..UNKNOWN_FROM + labels).contains(&kind) || kind == PERMIT_KIND
 }
 
-// The checks 4, 15, 6, 7, 8 of one record of party u's chain: `mark` is not 0 where the record was reached before, and `row` has
+// The kind of the same label that says the other: unknown for known, known for unknown.
+fn opposite_kind(kind: usize) -> usize
+    requires { kind < 256 }
+    ensures { result ≡ opposite_kind kind }
+{
+    if kind < UNKNOWN_FROM {
+        UNKNOWN_FROM + kind
+    } else {
+        kind - UNKNOWN_FROM
+    }
+}
+
+// The checks 4, 15, 6, 7, 8, 16 of one record of party u's chain: `mark` is not 0 where the record was reached before, and `row` has
 // the kinds of the chain's earlier records.
 // Kept: `mark` is a byte, since a bool would be a narrower type in a public function.
-#[tactic(auto, unfolding(crate::specs::Fields::judge_record))]
+#[tactic(auto, unfolding(crate::specs::Fields::judge_record, crate::specs::promises::Kinds::contrary_in))]
 pub fn check_record(h: Header, u: usize, x: Record, mark: u8, row: Row) -> Result<(), Refusal>
     requires { (h.parties ≤ most_parties) × (h.labels ≤ most_labels) }
     ensures { result ≡ judge_record h.parties h.labels u x (not (eqb mark 0))
-        (test_bit (mask_in row x.target) (bit_of x.kind)) }
+        (test_bit (mask_in row x.target) (bit_of x.kind)) (contrary_in (mask_in row x.target) x.kind) }
 {
     if mark != 0 {
         return Err(Refusal::Again);
@@ -111,8 +131,12 @@ pub fn check_record(h: Header, u: usize, x: Record, mark: u8, row: Row) -> Resul
     if !legal_kind(h.labels, x.kind) {
         return Err(Refusal::Kind);
     }
-    if masks::has(row.masks[x.target], bit_of(x.kind)) {
+    let seen = row.masks[x.target];
+    if masks::has(seen, bit_of(x.kind)) {
         return Err(Refusal::Repeat);
+    }
+    if x.kind != PERMIT_KIND && masks::has(seen, bit_of(opposite_kind(x.kind))) {
+        return Err(Refusal::Contrary);
     }
     Ok(())
 }

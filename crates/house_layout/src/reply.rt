@@ -2,7 +2,7 @@
 ghost use Rattle.std.specs.Prelude.{◌≡◌};
 ghost use Rattle.house_layout.specs.Reply.{number_of};
 
-// The refusals of 01 and 02; `number_of` gives the number of each. 1 to 8 and 15 are caused by whoever wrote the file.
+// The refusals of 01 and 02; `number_of` gives the number of each. 1 to 8, 15 and 16 are caused by whoever wrote the file.
 #[derive(Clone, Copy, Debug, PartialEq, Eq)]
 pub enum Refusal {
     Length,
@@ -20,6 +20,7 @@ pub enum Refusal {
     Inconvertible,
     Output,
     Owner,
+    Contrary,
 }
 
 // 01's number of a refusal.
@@ -43,6 +44,7 @@ impl From<Refusal> for u8 {
             Refusal::Inconvertible => 13,
             Refusal::Output => 14,
             Refusal::Owner => 15,
+            Refusal::Contrary => 16,
         }
     }
 }

@@ -28,7 +28,7 @@ symbol_count = 32
 abbrev pub last_symbol : ℕ
 last_symbol = 31
 
--- R at most: each pair with each label, and with a permit
+-- R at most: each pair with each label, known or unknown, and with a permit
 abbrev pub most_records : ℕ
 most_records = 8928
 

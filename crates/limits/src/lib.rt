@@ -22,7 +22,7 @@ pub const WORD_CAPACITY: usize = LONGEST_WORD;
 // 4 × label + kind at most.
 pub const LAST_SYMBOL: u8 = 31;
 
-// R at most: each pair with each label, and with a permit.
+// R at most: each pair with each label, known or unknown, and with a permit.
 pub const MOST_RECORDS: usize = 8928;
 
 // The pair (a, b) has number 32a + b; so many numbers there are.

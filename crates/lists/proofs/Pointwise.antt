@@ -64,6 +64,23 @@ filter_length p (x ∷ l) =
     let ih : length (filter_by p l) ≤ length l = filter_length p l in
     by_test (p x) (λ e. rw (e, filter_by) (omega arith)) (λ e. rw (e, filter_by) (omega arith))
 
+-- two filters that never pick the same leave no more than there was
+pub filter_apart : {A : Type 0} (p q : A → Bool) (l : List A)
+    → ((x : A) → Memᴰ x l → p x ≡ true → q x ≡ true → ⊥) → length (filter_by p l) + length (filter_by q l) ≤ length l
+unfolding filter_by
+filter_apart p q [] f = omega arith
+filter_apart p q (x ∷ l) f =
+    let ih : length (filter_by p l) + length (filter_by q l) ≤ length l = filter_apart p q l (λ y m. f y (Memᴰ.tail m)) in
+    by_test (p x)
+    (λ t. by_test (q x) (λ k. absurd (f x (Memᴰ.head refl) t k)) (λ k. rw (t, k, filter_by) (omega arith)))
+    (λ t. by_test (q x) (λ k. rw (t, k, filter_by) (omega arith)) (λ k. rw (t, k, filter_by) (omega arith)))
+
+-- a filter of a mapped list
+pub filter_map : {A B : Type 0} (p : B → Bool) (f : A → B) (l : List A) → filter_by p (map f l) ≡ map f (filter_by (λ x. p (f x)) l)
+unfolding filter_by
+filter_map p f [] = refl
+filter_map p f (x ∷ l) = by_test (p (f x)) (λ t. rw (t, filter_by, filter_map p f l)) (λ t. rw (t, filter_by) (filter_map p f l))
+
 -- a stricter test picks no more, and fewer where it refuses a member that the other picks
 pub filter_fewer : {A : Type 0} (p q : A → Bool) (l : List A)
     → ((x : A) → Memᴰ x l → p x ≡ true → q x ≡ true) → length (filter_by p l) ≤ length (filter_by q l)

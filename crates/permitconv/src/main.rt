@@ -73,7 +73,7 @@ fn run<R: Read, W: Write>(asked: &[u8], input: &mut R, out: &mut W) -> Result<()
         );
     }
     if asked == b"--version".as_slice() {
-        return print(b"permitconv (Hempmallet) 0.13.0\n", out);
+        return print(b"permitconv (Hempmallet) 0.17.0\n", out);
     }
     convert(input, out)
 }

@@ -20,6 +20,7 @@ pub mod FormLaws
 pub mod SearchLaws
 pub mod CarriedLaws
 pub mod MatterLaws
+pub mod UnknownLaws
 pub mod MarkedLaws
 pub mod BackwardLaws
 pub mod WordTestLaws

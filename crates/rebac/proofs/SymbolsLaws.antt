@@ -1,5 +1,5 @@
 -- The symbols that hold are those in a row of Table 1, by cases on kind and language; the alphabet lists the language.
-use Rattle.std.proofs.Common.{◌≡◌, refl, sym, ◌∙◌, ◌⊎◌, inl, inr, ⊎_elim, true, false, ◌&&◌, List, [], ◌∷◌, map, ℕ}
+use Rattle.std.proofs.Common.{◌≡◌, refl, sym, ◌∙◌, ◌⊎◌, inl, inr, ⊎_elim, true, false, not, ◌&&◌, List, [], ◌∷◌, map, ℕ}
 use Rattle.std.proofs.Common.{zero, suc, ◌+◌, ◌*◌, ◌/◌, ◌%◌, ◌≤◌, ◌<◌, arith, eqb, ltb, ltb-true, lt-ltb, ne_eqb}
 use Rattle.std.proofs.lemmas.Bool.{eqb-false, not-true}
 use mathlib.Core.List.Memᴰ
@@ -11,12 +11,12 @@ use Rattle.lists.proofs.ListLaws.{all_in, flat_in, flat_out, map_in, map_out, me
 use Rattle.lists.proofs.OrderLaws.{ascending_append, range_ascending}
 use Rattle.rebac.specs.Matter.{Matter}
 use Rattle.rebac.specs.TriplePaths.{TableRow, plain, absent, inverse, absent_inverse, Held}
-use Rattle.rebac.specs.Symbols.{kinds, kind_holds, apart, in_language, holds, alphabet, cap_of}
+use Rattle.rebac.specs.Symbols.{kinds, absent_edge, kind_holds, apart, in_language, holds, alphabet, cap_of}
 
-split_label : (l k : ℕ) → k < 4 → (4 * l + k) / 4 ≡ l
+pub split_label : (l k : ℕ) → k < 4 → (4 * l + k) / 4 ≡ l
 split_label l k h = omega arith
 
-split_kind : (l k : ℕ) → k < 4 → (4 * l + k) % 4 ≡ k
+pub split_kind : (l k : ℕ) → k < 4 → (4 * l + k) % 4 ≡ k
 split_kind l k h = omega arith
 
 join_symbol : (s : ℕ) → s ≡ 4 * (s / 4) + s % 4
@@ -111,15 +111,20 @@ absent_inverse_ticked (suc zero) e = clash (sym e)
 absent_inverse_ticked (suc (suc zero)) e = clash (sym e)
 absent_inverse_ticked (suc (suc (suc g))) e = omega arith
 
+-- an absent edge is neither an edge nor unknown
+pub absent_out : (M : Matter) (u v label : ℕ) → absent_edge M u v label ≡ true → (M.edge u v label ≡ false) × (M.unknown u v label ≡ false)
+absent_out M u v label e = (not-true _ (and_left _ _ e), not-true _ (and_right (not (M.edge u v label)) _ e))
+
 -- a symbol that holds is in the row of its kind
 row_of : (M : Matter) (u v s label kind : ℕ) → label < M.labels → s ≡ 4 * label + kind → kind < 4
     → member kind (kinds M.language) ≡ true → kind_holds M u v label kind ≡ true → TableRow M u v s
 unfolding kind_holds
 row_of M u v s label zero l q k m e = plain label l q e
-row_of M u v s label (suc zero) l q k m e = absent label l q (not-true (M.edge u v label) e) (absent_ticked M.language m)
+row_of M u v s label (suc zero) l q k m e =
+    let a = absent_out M u v label e in absent label l q a.0 a.1 (absent_ticked M.language m)
 row_of M u v s label (suc (suc zero)) l q k m e = inverse label l q e (inverse_ticked M.language m)
 row_of M u v s label (suc (suc (suc zero))) l q k m e =
-    absent_inverse label l q (not-true (M.edge v u label) e) (absent_inverse_ticked M.language m)
+    let a = absent_out M v u label e in absent_inverse label l q a.0 a.1 (absent_inverse_ticked M.language m)
 row_of M u v s label (suc (suc (suc (suc kind)))) l q k m e = absurd (omega arith)
 
 pub holds_out : (M : Matter) (u v s : ℕ) → holds M u v s ≡ true → Held M u v s
@@ -148,9 +153,9 @@ holds_in M u v s r = go r.row
 
     go : TableRow M u v s → holds M u v s ≡ true
     go (plain label l q e) = kept label 0 l q (plain_used M.language) e
-    go (absent label l q e t) = kept label 1 l q (absent_used M.language t) (rw e)
+    go (absent label l q e n t) = kept label 1 l q (absent_used M.language t) (rw (e, n))
     go (inverse label l q e t) = kept label 2 l q (inverse_used M.language t) e
-    go (absent_inverse label l q e t) = kept label 3 l q (absent_inverse_used M.language t) (rw e)
+    go (absent_inverse label l q e n t) = kept label 3 l q (absent_inverse_used M.language t) (rw (e, n))
 
 -- no symbol holds between a party and itself
 pub holds_loop : (M : Matter) (u s : ℕ) → holds M u u s ≡ false

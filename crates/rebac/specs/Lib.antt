@@ -4,6 +4,7 @@ pub mod Paths
 pub mod WordTest
 pub mod Symbols
 pub mod TriplePaths
+pub mod Unknown
 pub mod Rules
 pub mod Verdict
 pub mod Mining

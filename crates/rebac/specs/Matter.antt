@@ -14,6 +14,8 @@ pub record Matter : Type 0 where
   pub longest : ℕ
   -- (u, v, label) is an edge of E
   pub edge : ℕ → ℕ → ℕ → Bool
+  -- nobody knows whether (u, v, label) is an edge (02, Ticket 5)
+  pub unknown : ℕ → ℕ → ℕ → Bool
   -- (u, v) is in AUTH
   pub permit : ℕ → ℕ → Bool
 

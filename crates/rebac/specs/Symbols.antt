@@ -11,12 +11,16 @@ kinds (suc zero) = 0 ∷ 1 ∷ []
 kinds (suc (suc zero)) = 0 ∷ 2 ∷ []
 kinds (suc (suc (suc k))) = 0 ∷ 1 ∷ 2 ∷ 3 ∷ []
 
+-- Definition 4.3's E-bar, the edges that are not in E; 02, Ticket 5: "the absent edges leave out the unknown ones"
+abbrev pub absent_edge : Matter → ℕ → ℕ → ℕ → Bool
+absent_edge M u v label = not (M.edge u v label) && not (M.unknown u v label)
+
 -- Definition 4.3, the edges E, E-bar, E-inverse and E-bar-inverse; 01: plain, absent, inverse, absent inverse
 unfoldable pub kind_holds : Matter → ℕ → ℕ → ℕ → ℕ → Bool
 kind_holds M u v label zero = M.edge u v label
-kind_holds M u v label (suc zero) = not (M.edge u v label)
+kind_holds M u v label (suc zero) = absent_edge M u v label
 kind_holds M u v label (suc (suc zero)) = M.edge v u label
-kind_holds M u v label (suc (suc (suc k))) = not (M.edge v u label)
+kind_holds M u v label (suc (suc (suc k))) = absent_edge M v u label
 
 -- two different parties of the matter
 unfoldable pub apart : Matter → ℕ → ℕ → Bool

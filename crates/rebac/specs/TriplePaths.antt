@@ -35,18 +35,19 @@ module _ {S : Type 0} where
   path_label ts = map (λ t. t.symbol) ts
 
 -- Definition 4.1, Table 1: its four rows for a triple (u, v, s) of a label below L; 01: "A symbol is 4 × label + kind."
--- The languages 0, 1, 2 and 3 or more have the simple path, SCP, SPP and SCPP.
+-- The languages 0, 1, 2 and 3 or more have the simple path, SCP, SPP and SCPP. "No edge" leaves out the unknown ones (02, Ticket 5).
 pub data TableRow (M : Matter) (u v s : ℕ) : Type 0 where
   -- an edge, in all of them
   plain : (label : ℕ) → label < M.labels → s ≡ 4 * label + 0 → M.edge u v label ≡ true → TableRow M u v s
   -- no edge: SCP and SCPP
-  absent : (label : ℕ) → label < M.labels → s ≡ 4 * label + 1 → M.edge u v label ≡ false
+  absent : (label : ℕ) → label < M.labels → s ≡ 4 * label + 1 → M.edge u v label ≡ false → M.unknown u v label ≡ false
       → (M.language ≡ 1) ⊎ (3 ≤ M.language) → TableRow M u v s
   -- the inverse of an edge: SPP and SCPP
   inverse : (label : ℕ) → label < M.labels → s ≡ 4 * label + 2 → M.edge v u label ≡ true
       → (M.language ≡ 2) ⊎ (3 ≤ M.language) → TableRow M u v s
   -- the inverse of no edge: SCPP
-  absent_inverse : (label : ℕ) → label < M.labels → s ≡ 4 * label + 3 → M.edge v u label ≡ false → 3 ≤ M.language → TableRow M u v s
+  absent_inverse : (label : ℕ) → label < M.labels → s ≡ 4 * label + 3 → M.edge v u label ≡ false → M.unknown v u label ≡ false
+      → 3 ≤ M.language → TableRow M u v s
 
 -- the triple is between two different parties and in a row of the table
 pub record Held (M : Matter) (u v s : ℕ) : Type 0 where

@@ -9,8 +9,8 @@ use Rattle.rebac.specs.Symbols.{kinds, kind_holds, apart, in_language, holds}
 use Rattle.rebac.specs.Existence.{has_all, permits_pair}
 use Rattle.house_layout.specs.Layout.{record_size, owner_in, record_of}
 use Rattle.house_layout.specs.Fields.{fields_in_range, judge_record}
-use Rattle.house_file.specs.Check.{says, record_check, follow_chain, follow_chains, chains_check, check_of}
-use Rattle.house_file.specs.Meaning.{chain_from, chain_of, recorded, is_edge, is_permitted}
+use Rattle.house_file.specs.Check.{says, contradicts, record_check, follow_chain, follow_chains, chains_check, check_of}
+use Rattle.house_file.specs.Meaning.{chain_from, chain_of, recorded, is_edge, is_unknown, is_permitted}
 use Rattle.graph.specs.FileMatter.{matter_of}
 use Rattle.graph.specs.Legal.{legal_symbol}
 use Rattle.rule_bytes.specs.ListBytes.{decode_count, decode_many, legal_word, decode_word, decode_term, decode_terms, decode_list}
@@ -21,9 +21,9 @@ use Rattle.worked_cases.proofs.CasesHold.{same_at}
 replies : map (λ c. compare_call c.file c.list) compared_lists ≡ map (λ c. c.reply) compared_lists
 unfolding all_of any_of filter_by first_by flat_map up_from range u16_at pairs_of permitted candidates routes paths_of has
     kinds kind_holds apart in_language holds has_all permits_pair record_size owner_in record_of fields_in_range judge_record says
-    record_check follow_chain follow_chains chains_check check_of chain_from chain_of recorded is_edge is_permitted matter_of legal_symbol
-    decode_count decode_many legal_word decode_word decode_term decode_terms decode_list only_file only_list differ first_difference
-    comparison compare_in compare_call
+    contradicts record_check follow_chain follow_chains chains_check check_of chain_from chain_of recorded is_edge is_unknown is_permitted
+    matter_of legal_symbol decode_count decode_many legal_word decode_word decode_term decode_terms decode_list only_file only_list differ
+    first_difference comparison compare_in compare_call
 replies = refl
 
 told : map (λ c. said_compare c.reply) compared_lists ≡ map (λ c. c.said) compared_lists

@@ -5,8 +5,8 @@ use Rattle.lists.specs.Lists.{all_of, any_of, filter_by, flat_map, up_from, rang
 use Rattle.fields.specs.Numbers.{u16_at, u16_bytes}
 use Rattle.house_layout.specs.Layout.{record_size, owner_in, record_of}
 use Rattle.house_layout.specs.Fields.{fields_in_range, judge_record}
-use Rattle.house_file.specs.Check.{says, record_check, follow_chain, follow_chains, chains_check, check_of}
-use Rattle.house_file.specs.Meaning.{chain_from, chain_of, recorded, is_edge, is_permitted}
+use Rattle.house_file.specs.Check.{says, contradicts, record_check, follow_chain, follow_chains, chains_check, check_of}
+use Rattle.house_file.specs.Meaning.{chain_from, chain_of, recorded, is_edge, is_unknown, is_permitted}
 use Rattle.graph.specs.FileMatter.{matter_of}
 use Rattle.canonical.specs.Canonical.{kind_bytes, says_kind, pair_entries, entries_of, entries_below}
 use Rattle.canonical.specs.Canonical.{chain_records, records_for, header_bytes, heads_by, record_bytes, canonical_of}
@@ -19,14 +19,14 @@ use Rattle.worked_cases.proofs.CasesHold.{same_at}
 
 accepted : map (λ c. check_of c.file) copied_files ≡ map (λ c. Ok tt) copied_files
 unfolding all_of any_of up_from u16_at record_size owner_in record_of fields_in_range judge_record
-    says record_check follow_chain follow_chains chains_check check_of
+    says contradicts record_check follow_chain follow_chains chains_check check_of
 accepted = refl
 
 written : map (λ c. write_call c.file (length c.copy)) copied_files ≡ map (λ c. writes c.copy) copied_files
 unfolding all_of any_of up_from u16_at record_size owner_in record_of fields_in_range judge_record
-    says record_check follow_chain follow_chains chains_check check_of filter_by
-    flat_map range u16_bytes chain_from chain_of recorded is_edge is_permitted matter_of kind_bytes says_kind pair_entries entries_of
-    entries_below chain_records records_for header_bytes heads_by record_bytes canonical_of write_in write_call
+    says contradicts record_check follow_chain follow_chains chains_check check_of filter_by
+    flat_map range u16_bytes chain_from chain_of recorded is_edge is_unknown is_permitted matter_of kind_bytes says_kind pair_entries
+    entries_of entries_below chain_records records_for header_bytes heads_by record_bytes canonical_of write_in write_call
 written = refl
 
 copied_accepted : {c : CopiedFile} → Memᴰ c copied_files → check_of c.file ≡ Ok tt

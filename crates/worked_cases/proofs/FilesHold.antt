@@ -9,8 +9,8 @@ use Rattle.fields.specs.Numbers.{u16_at}
 use Rattle.house_layout.specs.Layout.{record_size, owner_in, record_of}
 use Rattle.house_layout.specs.Reply.{number_of}
 use Rattle.house_layout.specs.Fields.{fields_in_range, judge_record}
-use Rattle.house_file.specs.Check.{says, record_check, follow_chain, follow_chains, chains_check, check_of}
-use Rattle.house_file.specs.Meaning.{chain_from, chain_of, recorded, is_edge, is_permitted, WellFormed}
+use Rattle.house_file.specs.Check.{says, contradicts, record_check, follow_chain, follow_chains, chains_check, check_of}
+use Rattle.house_file.specs.Meaning.{chain_from, chain_of, recorded, is_edge, is_unknown, is_permitted, WellFormed}
 use Rattle.house_file.proofs.WellFormedLaws.{accepted_iff_well_formed}
 use Rattle.graph.specs.FileMatter.{matter_of}
 use Rattle.conversion.specs.Calls.{verdict_in, verdict_call}
@@ -26,7 +26,7 @@ use Rattle.worked_cases.proofs.CopiesHold.{copy_a}
 
 accepted : check_of file_a ≡ Ok tt
 unfolding all_of any_of up_from u16_at record_size owner_in record_of fields_in_range judge_record
-    says record_check follow_chain follow_chains chains_check check_of
+    says contradicts record_check follow_chain follow_chains chains_check check_of
 accepted = refl
 
 -- a number from 3 on, by the tests
@@ -66,6 +66,16 @@ edge_same (suc l) = λ u v.
     let q : eqb (suc l) 0 ≡ false = ne_eqb (suc l) 0 (λ e. omega arith) in
     rw (le-ltb (suc l) 1 (omega arith), and_false (eqb u 0) (and_false (eqb v 1) q), and_false (eqb u 1) (and_false (eqb v 2) q))
 
+unknown_same : (l u v : ℕ) → is_unknown file_a u v l ≡ row_a.matter.unknown u v l
+unfolding any_of u16_at record_size record_of says chain_from chain_of recorded is_unknown
+unknown_same zero =
+    from_three (λ u. (v : ℕ) → is_unknown file_a u v 0 ≡ false)
+    (from_three (λ v. is_unknown file_a 0 v 0 ≡ false) refl refl refl (λ v f. simp (f.one_to, f.two_to)))
+    (from_three (λ v. is_unknown file_a 1 v 0 ≡ false) refl refl refl (λ v f. simp f.two_to))
+    (λ v. refl)
+    (λ u f v. simp f.under)
+unknown_same (suc l) = λ u v. rw (le-ltb (suc l) 1 (omega arith))
+
 permit_same : (u v : ℕ) → is_permitted file_a u v ≡ row_a.matter.permit u v
 unfolding any_of u16_at record_size record_of says chain_from chain_of recorded is_permitted listed_pair
 permit_same =
@@ -83,6 +93,7 @@ matter_same = λ i. record {
   language = 0;
   longest = 2;
   edge = λ u v l. edge_same l u v i;
+  unknown = λ u v l. unknown_same l u v i;
   permit = λ u v. permit_same u v i;
 }
 
@@ -120,7 +131,7 @@ file_a_length = refl
 -- the refusals, each by its file
 checked : map (λ c. check_of c.file) refused_files ≡ map (λ c. Err c.refusal) refused_files
 unfolding all_of any_of up_from u16_at record_size owner_in record_of fields_in_range judge_record
-    says record_check follow_chain follow_chains chains_check check_of
+    says contradicts record_check follow_chain follow_chains chains_check check_of
 checked = refl
 
 numbered : map (λ c. number_of c.refusal) refused_files ≡ map (λ c. c.number) refused_files
@@ -142,14 +153,14 @@ files_refused c m =
     }
 
 -- each number that a file can be refused by is some row's
-pub every_refusal : (k : ℕ) → Memᴰ k (up_from 1 8 ++ (15 ∷ [])) → (c : RefusedFile) × Memᴰ c refused_files × (c.number ≡ k)
+pub every_refusal : (k : ℕ) → Memᴰ k (up_from 1 8 ++ (15 ∷ 16 ∷ [])) → (c : RefusedFile) × Memᴰ c refused_files × (c.number ≡ k)
 every_refusal k m =
     let r =
     any_out (λ c. eqb c.number k) refused_files
-    (all_in (λ k. any_of (λ c. eqb c.number k) refused_files) (up_from 1 8 ++ (15 ∷ [])) occurring m) in
+    (all_in (λ k. any_of (λ c. eqb c.number k) refused_files) (up_from 1 8 ++ (15 ∷ 16 ∷ [])) occurring m) in
     (r.0, r.1, eqb-true r.0.number k r.2)
   where
-    occurring : all_of (λ k. any_of (λ c. eqb c.number k) refused_files) (up_from 1 8 ++ (15 ∷ [])) ≡ true
+    occurring : all_of (λ k. any_of (λ c. eqb c.number k) refused_files) (up_from 1 8 ++ (15 ∷ 16 ∷ [])) ≡ true
     occurring = unfold all_of any_of up_from in refl
 
 -- "R 8,928 passes its field", "n 32 passes"

@@ -1,5 +1,5 @@
 -- 01, "Threadings tried": cases A to J as rows of one list.
-use Rattle.std.specs.Prelude.{ℕ, ◌≡◌, Bool, ◌&&◌, List, [], ◌∷◌, Result, Ok, eqb}
+use Rattle.std.specs.Prelude.{ℕ, ◌≡◌, Bool, false, ◌&&◌, List, [], ◌∷◌, Result, Ok, eqb}
 use Prim.Native.String.{String}
 use Rattle.std.proofs.Math.Option.{some}
 use Rattle.lists.specs.Lists.{any_of}
@@ -38,10 +38,17 @@ listed_edge es u v label = any_of (λ e. eqb u e.start && (eqb v e.finish && eqb
 unfoldable pub listed_pair : List Pair → ℕ → ℕ → Bool
 listed_pair ps u v = any_of (λ q. eqb u q.first && eqb v q.second) ps
 
--- the matter with n parties, L labels, a language, D, the relations and permits of two lists
+-- the matter with n parties, L labels, a language, D, the relations and permits of two lists, and nothing unknown
 abbrev pub listed_matter : ℕ → ℕ → ℕ → ℕ → List (Triple ℕ) → List Pair → Matter
-listed_matter n labels language longest es ps =
-    record { parties = n; labels = labels; language = language; longest = longest; edge = listed_edge es; permit = listed_pair ps }
+listed_matter n labels language longest es ps = record {
+  parties = n;
+  labels = labels;
+  language = language;
+  longest = longest;
+  edge = listed_edge es;
+  unknown = λ u v l. false;
+  permit = listed_pair ps;
+}
 
 -- "Base, for whatever a case leaves unsaid: n 3, L 1, D 2, language 0, relations 0 to 1 and 1 to 2"; here with a language, D and permits
 abbrev base : ℕ → ℕ → List Pair → Matter

@@ -4,7 +4,8 @@ use Prim.Native.String.{String}
 use Rattle.house_layout.specs.Reply.{number_of}
 use Rattle.house_file.specs.Check.{check_of}
 use Rattle.house_layout.specs.declared.reply.Refusal.{Refusal}
-use Rattle.house_layout.specs.declared.reply.Refusal.TheVariants.{Length, Field, Link, Again, Unreached, Owner, Target, Kind, Repeat}
+use Rattle.house_layout.specs.declared.reply.Refusal.TheVariants.{Length, Field, Link, Again, Unreached}
+use Rattle.house_layout.specs.declared.reply.Refusal.TheVariants.{Owner, Target, Kind, Repeat, Contrary}
 use Rattle.graph.specs.FileMatter.{matter_of}
 use Rattle.conversion.specs.Calls.{bytes_of, verdict_call}
 use Rattle.conversion.specs.declared.verdict.Verdict.TheVariants.{Convertible}
@@ -87,6 +88,11 @@ refused_files =
     ∷ refused (changed 15 1) Kind 7 "refused 7\n"
     -- record 1 with the target and kind of record 2
     ∷ refused (set (changed 14 2) 15 0xFF) Repeat 8 "refused 8\n"
+    -- 02, Ticket 5: record 1's kind 80 plus L; records 1 and 2 with one target and label: known and unknown, the reverse, unknown twice
+    ∷ refused (changed 15 0x81) Kind 7 "refused 7\n"
+    ∷ refused (set (changed 18 1) 19 0x80) Contrary 16 "refused 16\n"
+    ∷ refused (set (set (changed 15 0x80) 18 1) 19 0) Contrary 16 "refused 16\n"
+    ∷ refused (set (set (changed 15 0x80) 18 1) 19 0x80) Repeat 8 "refused 8\n"
     -- edition 2 behind edition 1's header and the reverse; no edition
     ∷ refused (changed2 0 1) Length 1 "refused 1\n"
     ∷ refused (changed 0 2) Length 1 "refused 1\n"
@@ -98,6 +104,8 @@ refused_files =
     -- 15 "after 4 and before 6": record 3 with another owner and no target; head 1 at record 1, whose owner is party 0
     ∷ refused (set (changed2 28 0) 24 3) Owner 15 "refused 15\n"
     ∷ refused (changed2 10 1) Again 4 "refused 4\n"
+    -- known and unknown in edition 2
+    ∷ refused (set (changed2 19 1) 20 0x80) Contrary 16 "refused 16\n"
     -- a wrong target stands earlier in the chain than a wrong owner
     ∷ refused (set (changed2 14 3) 23 1) Target 6 "refused 6\n"
     -- record 3 is never reached, whatever its owner

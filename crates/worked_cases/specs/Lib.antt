@@ -3,3 +3,4 @@ pub mod Cases
 pub mod Files
 pub mod Copies
 pub mod Comparisons
+pub mod Unknowns

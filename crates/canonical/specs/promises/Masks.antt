@@ -8,7 +8,7 @@ use Rattle.masks.specs.declared.Table.{Table}
 use Rattle.rebac.specs.Matter.{Matter}
 use Rattle.house_layout.specs.Fields.{legal_kind}
 use Rattle.house_layout.specs.Layout.{header_size, owned_record, head_place}
-use Rattle.house_layout.specs.promises.Kinds.{permit_bit, bit_of}
+use Rattle.house_layout.specs.promises.Kinds.{permit_bit, unknown_bit, bit_of}
 use Rattle.house_layout.specs.declared.header.Header.{Header}
 use Rattle.house_layout.specs.declared.record.Record.{Record}
 use Rattle.canonical.specs.Canonical.{Entry, entry, kind_bytes, says_kind, first_of, chain_records, record_bytes}
@@ -26,6 +26,7 @@ matter_in h k = record {
   language = h.language;
   longest = h.longest;
   edge = λ u v l. test_bit (mask_at k u v) l;
+  unknown = λ u v l. test_bit (mask_at k u v) (unknown_bit + l);
   permit = λ u v. test_bit (mask_at k u v) permit_bit;
 }
 

@@ -1,5 +1,5 @@
 -- What it means that numbers and masks stand for a matter.
-use Rattle.std.specs.Prelude.{ℕ, ◌≡◌, ◌*◌}
+use Rattle.std.specs.Prelude.{ℕ, ◌≡◌, not, ◌&&◌, ◌+◌, ◌*◌}
 use Rattle.masks.specs.promises.Mask.{test_bit}
 use Rattle.masks.specs.promises.Table.{mask_in, mask_at}
 use Rattle.masks.specs.declared.Row.{Row}
@@ -19,7 +19,8 @@ pub record ShowsAs (M : Matter) (g : Graph) (rule : WordRule) (row : Row) : Type
   pub graph : (u v s : ℕ) → test_bit (mask_at g.table u v) s ≡ holds M u v s
   pub permits : (u v : ℕ) → test_bit (mask_in row u) v ≡ M.permit u v
 
--- the matter that numbers and masks say: symbol 4 * label holds where there is a relation
+-- the matter that numbers and masks say: symbol 4 * label holds where there is a relation, and neither that nor 4 * label + 1 where it
+-- is unknown (in languages that have no absent symbol, nothing tells the two apart, and no symbol depends on it)
 abbrev pub matter_in : Graph → WordRule → Row → Matter
 matter_in g rule row = record {
   parties = g.parties;
@@ -27,6 +28,7 @@ matter_in g rule row = record {
   language = rule.language;
   longest = rule.longest;
   edge = λ u v label. test_bit (mask_at g.table u v) (4 * label);
+  unknown = λ u v label. not (test_bit (mask_at g.table u v) (4 * label)) && not (test_bit (mask_at g.table u v) (4 * label + 1));
   permit = λ u v. test_bit (mask_in row u) v;
 }
 

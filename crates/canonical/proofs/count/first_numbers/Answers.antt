@@ -6,7 +6,7 @@ use Rattle.canonical.proofs.CountLaws.{numbered_zero, numbered_step}
 use Rattle.canonical.proofs.count.first_numbers.Goals as goal
 
 -- the next party's number is at most that past the last record
-bounded : (c : goal.After-count_party-number) → c.loop-u.number + c.count_party-number.result ≤ 9217
+bounded : (c : goal.After-count_party-number) → c.loop-u.number + c.count_party-number.result ≤ 17409
 bounded c =
     let l = c.loop-u in
     let M = matter_by c.args.m.now in

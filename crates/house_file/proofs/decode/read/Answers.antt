@@ -8,7 +8,7 @@ use Rattle.house_file.specs.Check.{check_of, chains_check}
 use Rattle.house_file.specs.Meaning.{is_permitted}
 use Rattle.house_file.specs.promises.Reading.{Framed}
 use Rattle.house_layout.proofs.LayoutLaws.{size_most}
-use Rattle.house_layout.proofs.RecordLaws.{permit_legal}
+use Rattle.house_layout.proofs.KindLaws.{permit_legal}
 use Rattle.house_file.proofs.WellFormedLaws.{check_size, check_chains, fields_right}
 use Rattle.house_file.proofs.decode.read.Goals as goal
 

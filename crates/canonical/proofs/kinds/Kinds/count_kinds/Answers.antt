@@ -1,5 +1,5 @@
 -- The places are counted whose kind passes, from 0 on.
-use Rattle.std.proofs.Common.{rules, tests, ◌≡◌, ◌∙◌, ℕ, ◌+◌, cond, get_or, length, arith}
+use Rattle.std.proofs.Common.{rules, tests, ◌≡◌, ◌∙◌, ℕ, ◌+◌, ◌*◌, cond, get_or, length, arith}
 use Rattle.std.proofs.iter.runs.Sources.{range_runs}
 use Rattle.masks.specs.promises.Mask.{test_bit}
 use Rattle.house_layout.specs.promises.Kinds.{bit_of}
@@ -16,5 +16,5 @@ returns c =
     let r = rw q.1 at w in
     let h : ℕ → ℕ → ℕ = λ n x. n + cond (test_bit a.mask (bit_of (get_or (kind_bytes a.self.labels) x 0))) 1 0 in
     let n = q.2.5 h (λ x b f m w. search (rules, tests)) in
-    let long : length q.0.items ≡ a.self.labels + 1 = omega (arith, q.0.long, r.1 (q.2.0 ∙ p.2)) in
+    let long : length q.0.items ≡ 2 * a.self.labels + 1 = omega (arith, q.0.long, r.1 (q.2.0 ∙ p.2)) in
     p.3 ∙ n ∙ kinds_count a.self.labels a.mask q.0.items long (counts_up q.0.items q.0.at q.0.len q.0.long q.0.reads r.3)

@@ -6,12 +6,13 @@ use Rattle.house_layout.proofs.Exits.{left_with}
 use Rattle.masks.specs.promises.Mask.{test_bit}
 use Rattle.masks.specs.promises.Table.{mask_in}
 use Rattle.masks.specs.declared.Row.{Row}
-use Rattle.house_layout.proofs.RecordLaws.{kind_small, bit_small, target_below}
+use Rattle.house_layout.proofs.KindLaws.{kind_small, bit_small}
+use Rattle.house_layout.proofs.RecordLaws.{target_below}
 use Rattle.house_layout.specs.Layout.{parties_of, labels_of, records_of, record_of}
 use Rattle.house_layout.specs.Fields.{legal_kind, judge_record}
 use Rattle.house_layout.specs.declared.header.Header.{Header}
 use Rattle.house_layout.specs.declared.record.Record.{Record}
-use Rattle.house_layout.specs.promises.Kinds.{bit_of}
+use Rattle.house_layout.specs.promises.Kinds.{bit_of, contrary_in}
 use Rattle.house_file.specs.promises.Reading.{Framed}
 use Rattle.house_file.proofs.ChainLaws.{judged, here_start, here_end}
 use Rattle.house_file.proofs.ChainLaws.{here_link, here_refused, here_next, tests, clearer}
@@ -38,6 +39,7 @@ module _ {f : List ℕ} {h : Header} (framed : Framed f h) where
   -- the record's checks gave what the definition's turn says
   checked : (marks : List ℕ) (row : Row) (u at : ℕ) {x : Record} {r v : Result ⊤ Refusal} → x ≡ record_of f at
       → r ≡ judge_record h.parties h.labels u x (not (eqb (get_or marks (at - 1) 0) 0)) (test_bit (mask_in row x.target) (bit_of x.kind))
+      (contrary_in (mask_in row x.target) x.kind)
       → r ≡ v → judged f u marks row at ≡ v
   unfolding judged
   checked marks row u at {r = r} e j q =
@@ -73,7 +75,7 @@ returns-in_err-check_record-clause-read c =
     λ before m.
     let l = c.loop-at in
     rw (left_with c.from_residual.result c.from_residual.ensures.1)
-    (here_refused _ _ before _ _ _ (l.invariant.1 before m) c.loop-at-test.true (in_file w c.if-h-at.false) _
+    (here_refused _ _ before _ _ _ (l.invariant.1 before m) c.loop-at-test.true (in_file w c.if-h-at.false) (bounded w) _
     (checked w _ _ _ _ c.read_record-x.ensures c.check_record.ensures c.in_err-check_record.was))
 
 pub bit_of-requires : goal.bit_of-requires
@@ -109,8 +111,8 @@ loop-at-preserved c =
       length-set l.marks _ _ ∙ l.invariant.0,
       λ before m.
           rw x (here_next _ _ before _ _ _ (l.invariant.1 before m) c.loop-at-test.true (in_file w c.if-h-at.false)
-          a (long w _ l.invariant.0 c.loop-at-test.true c.if-h-at.false)
-          (bounded w) c.add-row.result
+          (bounded w) a (long w _ l.invariant.0 c.loop-at-test.true c.if-h-at.false)
+          c.add-row.result
           (rw x at (rw c.bit_of.ensures at c.add-row.ensures.same)) (rw x at c.add-row.ensures.other)),
     )
 
