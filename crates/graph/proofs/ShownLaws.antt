@@ -3,34 +3,19 @@
 use Rattle.std.proofs.Common.{◌≡◌, refl, sym, ◌∙◌, Bool, true, false, not, ◌&&◌, ℕ, zero, suc, ◌+◌}
 use Rattle.std.proofs.Common.{◌*◌, ◌/◌, ◌%◌, ◌<◌, ltb, eqb, arith, lt-ltb, ltb-true, ne_eqb}
 use Rattle.std.proofs.lemmas.Bool.{eqb-false, not-true}
-use Rattle.lists.specs.Lists.{any_of, member}
-use Rattle.lists.proofs.Cases.{by_test, clash, and_left, and_right}
+use Rattle.lists.specs.Lists.{member}
+use Rattle.lists.proofs.Cases.{by_test, and_left, and_right}
+use Rattle.lists.proofs.ListLaws.{member_in}
 use Rattle.masks.specs.declared.Row.{Row}
 use Rattle.rebac.specs.Matter.{Matter}
 use Rattle.rebac.specs.Symbols.{kinds, absent_edge, kind_holds, apart, in_language, holds}
+use Rattle.rebac.proofs.SymbolsLaws.{plain_used, absent_with_inverse}
 use Rattle.rebac.proofs.UnknownLaws.{same_apart, same_language}
 use Rattle.search.specs.declared.graph.Graph.{Graph}
 use Rattle.graph.specs.declared.words.WordRule.{WordRule}
 use Rattle.graph.specs.declared.archive.Archive.{Archive}
 use Rattle.graph.specs.promises.Shown.{ShowsAs, Shown, matter_in}
 use Rattle.graph.specs.promises.Archive.{Shows}
-
--- every language uses kind 0
-plain_used : (g : ℕ) → member 0 (kinds g) ≡ true
-unfolding kinds any_of
-plain_used zero = refl
-plain_used (suc zero) = refl
-plain_used (suc (suc zero)) = refl
-plain_used (suc (suc (suc k))) = refl
-
--- a language with the absent inverse has the absent symbol
-absent_with_inverse : (g k : ℕ) → member (suc (suc (suc k))) (kinds g) ≡ true → member 1 (kinds g) ≡ true
-unfolding kinds any_of
-absent_with_inverse zero k e = clash (sym (rw (ne_eqb (suc (suc (suc k))) 0 (omega arith)) at e))
-absent_with_inverse (suc zero) k e = refl
-absent_with_inverse (suc (suc zero)) k e =
-    clash (sym (rw (ne_eqb (suc (suc (suc k))) 0 (omega arith), ne_eqb (suc (suc (suc k))) 2 (omega arith)) at e))
-absent_with_inverse (suc (suc (suc g))) k e = refl
 
 -- absent are those that are no edge and not unknown, where unknown are those that are neither an edge nor absent
 absent_again : (e n : Bool) → (not e && not (not e && not (not e && not n))) ≡ (not e && not n)
@@ -47,7 +32,7 @@ module _ {M : Matter} {g : Graph} {rule : WordRule} {row : Row} (h : ShowsAs M g
   same_edge u v l a k =
       let d : 4 * l / 4 ≡ l = omega arith in
       let e : 4 * l % 4 ≡ 0 = omega arith in
-      h.graph u v (4 * l) ∙ rw (a, d, e, lt-ltb l M.labels k, plain_used M.language) refl
+      h.graph u v (4 * l) ∙ rw (a, d, e, lt-ltb l M.labels k, member_in 0 (kinds M.language) (plain_used M.language)) refl
 
   swapped : (u v : ℕ) → apart M u v ≡ true → apart M v u ≡ true
   unfolding apart

@@ -6,7 +6,8 @@ use Rattle.rebac.specs.Existence.{matter_words, problem_over, problem_of}
 use Rattle.rebac.specs.Unknown.{Unsaid, listed_graph}
 use Rattle.rebac.proofs.UnknownLaws.{unknown_unsaid, listed_graph_lem, listed_problem}
 use Rattle.house_file.specs.Check.{check_of}
-use Rattle.house_file.specs.Meaning.{is_unknown, OnlyKnown}
+use Rattle.house_file.specs.Meaning.{is_unknown}
+use Rattle.house_file.specs.Listed.{OnlyKnown}
 use Rattle.house_file.proofs.UnknownLaws.{nothing_unknown, unknown_no_edge}
 use Rattle.graph.specs.FileMatter.{matter_of}
 

@@ -9,8 +9,8 @@ use Rattle.house_layout.specs.Fields.{judge_record}
 use Rattle.house_layout.proofs.KindLaws.{known_legal, known_opposite}
 use Rattle.house_layout.specs.Layout.{parties_of, labels_of, record_of, unknown_kind}
 use Rattle.house_file.specs.Check.{says, contradicts, record_check, check_of}
-use Rattle.house_file.specs.Meaning.{chain_of, recorded, is_edge, is_unknown, KnownKind, OnlyKnown}
-use Rattle.house_file.specs.Listed.{listed_record_check}
+use Rattle.house_file.specs.Meaning.{chain_of, recorded, is_edge, is_unknown}
+use Rattle.house_file.specs.Listed.{KnownKind, OnlyKnown, listed_record_check}
 use Rattle.house_file.proofs.FollowLaws.{says_target}
 use Rattle.house_file.proofs.LinkedLaws.{records_right}
 use Rattle.house_file.proofs.WellFormedLaws.{accepted_iff_well_formed}

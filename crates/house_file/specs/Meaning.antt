@@ -30,13 +30,6 @@ is_edge f u v l = ltb l (labels_of f) && recorded f u v l
 unfoldable pub is_unknown : List ℕ → ℕ → ℕ → ℕ → Bool
 is_unknown f u v l = ltb l (labels_of f) && recorded f u v (unknown_kind l)
 
--- record r does not call a relation unknown; no record of a chain does
-abbrev pub KnownKind : List ℕ → ℕ → Type 0
-KnownKind f r = (l : ℕ) → l < labels_of f → (record_of f r).kind ≡ unknown_kind l → ⊥
-
-abbrev pub OnlyKnown : List ℕ → Type 0
-OnlyKnown f = (u r : ℕ) → u < parties_of f → Memᴰ r (chain_of f u) → KnownKind f r
-
 -- (u, v) is permitted
 unfoldable pub is_permitted : List ℕ → ℕ → ℕ → Bool
 is_permitted f u v = recorded f u v permit_kind

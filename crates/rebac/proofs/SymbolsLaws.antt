@@ -64,7 +64,7 @@ holds_table M u v label kind a b c d m =
     rw (split_label label kind k, split_kind label kind k, lt-ltb u _ a, lt-ltb v _ b, ne_eqb u v c, lt-ltb label _ d, used)
 
 -- Tables 1 and 2 agree: a language uses the kinds whose rows are ticked for it
-plain_used : (g : ℕ) → Memᴰ 0 (kinds g)
+pub plain_used : (g : ℕ) → Memᴰ 0 (kinds g)
 unfolding kinds
 plain_used zero = Memᴰ.head refl
 plain_used (suc zero) = Memᴰ.head refl
@@ -89,6 +89,15 @@ inverse_used g t = member_out 2 (kinds g) (⊎_elim (λ (q : g ≡ 2). rw q) (λ
 absent_inverse_used : (g : ℕ) → 3 ≤ g → Memᴰ 3 (kinds g)
 unfolding any_of
 absent_inverse_used g h = member_out 3 (kinds g) (rw (all_used g h))
+
+-- a language with the absent inverse has the absent symbol
+pub absent_with_inverse : (g k : ℕ) → member (suc (suc (suc k))) (kinds g) ≡ true → member 1 (kinds g) ≡ true
+unfolding kinds any_of
+absent_with_inverse zero k e = clash (sym (rw (ne_eqb (suc (suc (suc k))) 0 (omega arith)) at e))
+absent_with_inverse (suc zero) k e = refl
+absent_with_inverse (suc (suc zero)) k e =
+    clash (sym (rw (ne_eqb (suc (suc (suc k))) 0 (omega arith), ne_eqb (suc (suc (suc k))) 2 (omega arith)) at e))
+absent_with_inverse (suc (suc (suc g))) k e = refl
 
 absent_ticked : (g : ℕ) → member 1 (kinds g) ≡ true → (g ≡ 1) ⊎ (3 ≤ g)
 unfolding kinds any_of
