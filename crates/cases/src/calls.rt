@@ -25,6 +25,15 @@ pub fn read_word<R: Read>(input: &mut R) -> Result<Word, Stop> {
     })
 }
 
+// The call that writes a file. Its room is the largest, so no other call's frame pays for it.
+fn run_write<R: Read, W: Write>(asked: Asked, input: &mut R, out: &mut W) -> Result<(), Stop> {
+    let mut space = [0u8; FILE_ROOM + 32];
+    let n = asked.frame.output;
+    run_lent("write", n, &mut space, input, out, |lent| {
+        canonical::write_call(asked.file, lent).map(Some)
+    })
+}
+
 // Runs the call of a frame, and reads what else the frame has. No call has an unknown letter.
 pub fn run<R: Read, W: Write>(asked: Asked, input: &mut R, out: &mut W) -> Result<(), Stop> {
     let Asked { frame: f, file } = asked;
@@ -46,12 +55,7 @@ pub fn run<R: Read, W: Write>(asked: Asked, input: &mut R, out: &mut W) -> Resul
                 paths::next_call(file, f.first, f.second, w, lent)
             })?
         }
-        Some(Call::Write) => {
-            let mut space = [0u8; FILE_ROOM + 32];
-            run_lent("write", f.output, &mut space, input, out, |lent| {
-                canonical::write_call(file, lent).map(Some)
-            })?
-        }
+        Some(Call::Write) => run_write(asked, input, out)?,
         Some(Call::Test) => tested::run_test(asked, input, out)?,
         Some(Call::Permit) => listed::run_list(asked, input, out, listed::show_permit)?,
         Some(Call::Compare) => listed::run_list(asked, input, out, listed::show_compare)?,

@@ -63,8 +63,8 @@ before_place w fixed k {at} p l some h =
 
 pub after_row : (s : PairsInLetters) (w : Word) (at : ℕ) → Short w → 0 < at → at < w.len
     → After s w at (mask_in s.follow (get_or w.symbols (at - 1) 0))
-after_row s w at short some h fixed k p size c low high e =
+after_row s w at short some h x follow fixed k p size c low high e =
     let same = before_place w fixed k p size some h in
-    let q = s.pairs in
-    after_closed q.graph.table s.follow q.graph.parties q.graph.within s.follows q.first q.second q.is_pair.first fixed (at - 1) k c
-    (omega (arith, size)) (omega (arith, same, short.symbols (at - 1) (omega arith))) (rw same e)
+    let q = x.pairs in
+    after_closed q.graph.table x.follow q.graph.parties q.graph.within x.follows q.first q.second q.is_pair.first fixed (at - 1) k c
+    (omega (arith, size)) (omega (arith, same, short.symbols (at - 1) (omega arith))) (rw (same, follow) e)

@@ -3,3 +3,4 @@ pub mod LoadLaws
 pub mod UnknownLaws
 pub mod ShownLaws
 pub mod LegalLaws
+pub mod CallLaws

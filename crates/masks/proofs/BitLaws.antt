@@ -3,7 +3,7 @@ use Rattle.std.proofs.Common.{◌≡◌, refl, sym, ap, ◌∙◌, subst, true, 
 use Rattle.std.proofs.Common.{zero, suc, ◌+◌, ◌-◌, ◌*◌, ◌/◌, ◌%◌, ◌^◌, ◌≤◌, ◌<◌, mod-lt, pow-suc, one-mul, arith}
 use Rattle.std.proofs.Common.{eqb, lit<, pow_pos, pow-add, shr-shr, shl_exact, bit_and, bit_or, eq-eqb, ne_eqb}
 use Rattle.std.proofs.lemmas.Bool.{eqb-false}
-use Rattle.std.proofs.lemmas.Nat.{and_mask, and_shr, and_mod, or_shr, or_mod, or_block, ones_cat}
+use Rattle.std.proofs.lemmas.Nat.{and_mask, and_shr, and_mod, or_lt, or_shr, or_mod, or_block, ones_cat}
 use Rattle.std.proofs.Math.Logic.{by_cases}
 use Rattle.std.proofs.Math.Nat.{div_self, div-eq_of_lt, zero-div, mul-mod_left}
 use Rattle.std.proofs.Math.Decide.{dec_lt}
@@ -62,6 +62,9 @@ bit_with_same n v =
 pub bit_with_other : (n v k : ℕ) → (k ≡ v → ⊥) → bit_at (bit_or n (2 ^ v)) k ≡ bit_at n k
 bit_with_other n v k ne =
     or_bit n v k ∙ ap (λ (x : ℕ). bit_or (bit_at n k) x) (pow_bit_other v k ne) ∙ or_zero_r (bit_at n k)
+
+pub with_lt : (w n v : ℕ) → n < 2 ^ w → v < w → bit_or n (2 ^ v) < 2 ^ w
+with_lt w n v h l = or_lt w n (2 ^ v) h (pow-lt l)
 
 -- the same of the test
 pub test_with_same : (n v : ℕ) → test_bit (with_bit n v) v ≡ true

@@ -22,7 +22,7 @@ const KEPT_SIZE: usize = 2050;
 
 // The words kept, as a term from place 0 of the list on: how many they are, and where they end.
 // Kept: their number and end beside an array, since there is no heap and they are written as a term is in a slice.
-#[derive(Drop)]
+#[derive(Clone, Copy)]
 pub struct Kept {
     list: [u8; KEPT_SIZE],
     number: usize,

@@ -18,7 +18,7 @@ fn lacked_by_classes(t: &TwoPairs, had: ShortWord) -> Option<ShortWord>
 }
 
 // The own pair's words in order after `had`, up to the first that the other lacks. It has those up to `had`.
-// Before them a map is tried that shows that it has all, and after some of them classes.
+// Before them a map is tried that shows that it has all, and after some of them, if it has one word more, classes.
 pub fn lacked_after(t: &TwoPairs, had: ShortWord) -> Option<ShortWord>
     requires { HadQuery t.now had.word }
     ensures { FirstLackedAs t.now result }
@@ -29,7 +29,7 @@ pub fn lacked_after(t: &TwoPairs, had: ShortWord) -> Option<ShortWord>
     let own = t.own.in_graph();
     let other = t.other();
     let mut w = had;
-    for _ in 0..WORDS_BEFORE_CLASSES {
+    for _ in 0..=WORDS_BEFORE_CLASSES {
         w = next_word(&own, t.own.archive.words.longest, w)?;
         if !word_test::has_word(&other, w) {
             return Some(w);

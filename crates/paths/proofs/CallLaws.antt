@@ -185,6 +185,7 @@ pub record PathFound (M : Matter) (a b : ℕ) (w : Word) (p : Path) : Type 0 whe
   pub count : ones p.visited ≡ length (a ∷ via)
   pub size : length (a ∷ via) ≡ w.len + 1
   pub bytes : take (length (a ∷ via)) (set p.parties 0 a) ≡ a ∷ via
+  pub full : length p.parties ≡ 32
   pub room : ones p.visited ≤ length (set p.parties 0 a)
 
 module _ (M : Matter) (s : Archive) (h : Shows M s) (a b : ℕ) (w : Word) (short : Short w) where
@@ -214,6 +215,7 @@ module _ (M : Matter) (s : Archive) (h : Shows M s) (a b : ℕ) (w : Word) (shor
         count = count;
         size = size;
         bytes = path_bytes a l p.parties path_as.full (omega (arith, size, short.len)) path_as.parties;
+        full = path_as.full;
         room = omega (arith, count, size, short.len, length-set p.parties 0 a, path_as.full);
       }
 

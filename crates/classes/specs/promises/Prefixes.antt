@@ -72,9 +72,9 @@ Opens q w at low high mask =
     (fixed : List ℕ) (k : ℕ) → Places w fixed 0 k → length fixed ≡ at
     → (c : ℕ) → low ≤ c → c < high → test_bit mask c ≡ false → Closed (graph_of q.graph) (own_pair q) fixed k c
 
--- the same by the letters that may follow each other,
+-- the same by the letters that may follow each other, for any pairs and graph in which these may,
 abbrev pub After : PairsInLetters → Word → ℕ → ℕ → Type 0
-After s w at mask = Opens s.pairs w at 0 symbol_count mask
+After s w at mask = (x : PairsInLetters) → x.follow ≡ s.follow → Opens x.pairs w at 0 symbol_count mask
 
 -- the first telling word with the places before `at` as they stand and letters from `low` to below `high` after, where there is one,
 abbrev pub Sought : TwoPairsIn → Word → ℕ → ℕ → ℕ → Maybe ShortWord → Type 0

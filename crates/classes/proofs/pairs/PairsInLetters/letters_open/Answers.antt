@@ -21,6 +21,6 @@ loop-c-preserved c =
           rw (own.graph, own.first, own.second) at closed))
       -- a letter that does not follow the one before it
       | else-is_in w ↦ rw w.leads-is (skip (λ fixed k places size.
-          c.letters_after-after.ensures fixed k places size l.c (omega arith) (omega (arith, c.loop-c-test.true, c.requires.few))
+          c.letters_after-after.ensures a.self.now refl fixed k places size l.c (omega arith) (omega (arith, c.loop-c-test.true, c.requires.few))
           (sym c.is_in.ensures ∙ w.if-is_in.false)))
     ]
