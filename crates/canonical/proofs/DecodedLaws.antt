@@ -8,7 +8,7 @@ use Rattle.house_file.specs.Check.{check_of}
 use Rattle.house_file.specs.promises.Decoded.{Decoded, ReadAs}
 use Rattle.house_file.specs.declared.decode.House.{House}
 use Rattle.graph.specs.FileMatter.{matter_of}
-use Rattle.graph.proofs.CallLaws.{reply_check}
+use Rattle.graph.proofs.CallLaws.{reply_check, checked_as}
 use Rattle.canonical.specs.promises.Masks.{Stands}
 use Rattle.canonical.proofs.FileLaws.{matter_says, accepted_matter}
 
@@ -24,14 +24,10 @@ module _ (f : List ℕ) (e : check_of f ≡ Ok tt) where
     kinds = λ u v b h. d.kinds u v b h ∙ sym (matter_says f e u v b h);
   }
 
-checked_as : (f : List ℕ) (r : Result House Refusal) → ReadAs f r → check_of f ≡ reply_check r
-checked_as f (Ok h) l = l.0
-checked_as f (Err x) l = l
-
 module _ (f : List ℕ) (r : Result House Refusal) (l : ReadAs f r) where
   -- either reply: what the check is
   pub read_check : {c : Result ⊤ Refusal} → reply_check r ≡ c → check_of f ≡ c
-  read_check e = checked_as f r l ∙ e
+  read_check e = checked_as (ReadAs f) f (λ h q. q.0) (λ x q. q) r l ∙ e
 
   pub read_stands : {h : House} → r ≡ Ok h → Stands (matter_of f) h.header h.kinds
   read_stands {h} e = let read : ReadAs f (Ok h) = rw e at l in decoded_stands f read.0 h read.1

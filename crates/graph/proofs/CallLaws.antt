@@ -13,14 +13,17 @@ abbrev pub reply_check : {A : Type 0} → Result A Refusal → Result ⊤ Refusa
 reply_check (Ok a) = Ok tt
 reply_check (Err x) = Err x
 
-checked_as : (f : List ℕ) (r : Result Archive Refusal) → LoadedAs f r → check_of f ≡ reply_check r
-checked_as f (Ok a) l = l.0
-checked_as f (Err x) l = l
+-- of any reply whose promise says in either case what the check is
+pub checked_as : {A : Type 0} (Q : Result A Refusal → Type 0) (f : List ℕ)
+    → ((a : A) → Q (Ok a) → check_of f ≡ Ok tt) → ((x : Refusal) → Q (Err x) → check_of f ≡ Err x)
+    → (r : Result A Refusal) → Q r → check_of f ≡ reply_check r
+checked_as Q f accepts refuses (Ok a) q = accepts a q
+checked_as Q f accepts refuses (Err x) q = refuses x q
 
 module _ (f : List ℕ) (r : Result Archive Refusal) (l : LoadedAs f r) where
   -- either reply: what the check is
   pub load_check : {c : Result ⊤ Refusal} → reply_check r ≡ c → check_of f ≡ c
-  load_check e = checked_as f r l ∙ e
+  load_check e = checked_as (LoadedAs f) f (λ a q. q.0) (λ x q. q) r l ∙ e
 
   pub load_shows : {a : Archive} → r ≡ Ok a → Shows (matter_of f) a
   load_shows {a} e = let loaded : LoadedAs f (Ok a) = rw e at l in loaded.1

@@ -3,4 +3,4 @@
 
 mod text;
 
-pub use text::{TermText, list_text, put_term_text};
+pub use text::{TermText, hex_digit, list_text, put_term_text};

@@ -8,9 +8,10 @@ ghost use Rattle.rule_text.specs.Text.{hex_digit, symbol_text, word_text, term_t
 use fields::u16_at;
 use rule_bytes::Words;
 
+// The upper-case hexadecimal digit of a number below 16.
 // Kept: tried `write!` of {:02X} into the slice: no clause of std says what it puts there or that it succeeds; the kit's hex is lower-case.
 #[tactic(auto, unfolding(crate::specs::Text::hex_digit))]
-fn hex_digit(d: u8) -> u8
+pub fn hex_digit(d: u8) -> u8
     requires { d < 16 }
     ensures { result ≡ hex_digit d }
 {
